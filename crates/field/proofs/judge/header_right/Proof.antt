@@ -1,0 +1,16 @@
+-- `field::judge::header_right` meets its contract. Assumes nothing.
+use borrow.Author.Needs.{needs}
+use Rattle.field.proofs.judge.header_right.Statement.{statement}
+use Rattle.field.proofs.judge.header_right.Tie as tie
+
+is-within-requires : tie.Need-is-within-requires
+is-within-requires c κs = search needs
+
+both-requires : tie.Need-both-requires
+both-requires c κs = search needs
+
+returns : tie.Need-returns
+returns c = cc
+
+pub header-right-spec : {M : Type 1} → statement M
+header-right-spec = tie.close (tie.spec is-within-requires both-requires returns)

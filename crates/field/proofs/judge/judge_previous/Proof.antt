@@ -1,0 +1,22 @@
+-- `field::judge::judge_previous` meets its contract. Assumes nothing.
+use Rattle.field.specs.Judging.{judge}
+use borrow.Author.Needs.{needs}
+use Rattle.field.proofs.judge.judge_previous.Statement.{statement}
+use Rattle.field.proofs.judge.judge_previous.Tie as tie
+
+price-right-requires : tie.Need-price-right-requires
+price-right-requires c κs = search needs
+
+unless-requires : tie.Need-unless-requires
+unless-requires c κs = search needs
+
+unless-requires-2 : tie.Need-unless-requires-2
+unless-requires-2 c κs = search needs
+
+returns : tie.Need-returns
+unfolding judge
+returns c = cc
+
+pub judge-previous-spec : {M : Type 1} → statement M
+judge-previous-spec =
+    tie.close (tie.spec price-right-requires unless-requires unless-requires-2 returns)

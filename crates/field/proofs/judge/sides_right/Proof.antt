@@ -1,0 +1,37 @@
+-- `field::judge::sides_right` meets its contract. Assumes nothing.
+use borrow.Author.Needs.{needs}
+use Rattle.field.proofs.judge.sides_right.Statement.{statement}
+use Rattle.field.proofs.judge.sides_right.Tie as tie
+
+has-bid-requires : tie.Need-has-bid-requires
+has-bid-requires c κs = search needs
+
+zero-if-absent-requires : tie.Need-zero-if-absent-requires
+zero-if-absent-requires c κs = search needs
+
+has-offer-requires : tie.Need-has-offer-requires
+has-offer-requires c κs = search needs
+
+zero-if-absent-requires-2 : tie.Need-zero-if-absent-requires-2
+zero-if-absent-requires-2 c κs = search needs
+
+both-requires : tie.Need-both-requires
+both-requires c κs = search needs
+
+both-requires-2 : tie.Need-both-requires-2
+both-requires-2 c κs = search needs
+
+returns : tie.Need-returns
+returns c = cc
+
+pub sides-right-spec : {M : Type 1} → statement M
+sides-right-spec =
+    tie.close
+    (tie.spec
+    has-bid-requires
+    zero-if-absent-requires
+    has-offer-requires
+    zero-if-absent-requires-2
+    both-requires
+    both-requires-2
+    returns)

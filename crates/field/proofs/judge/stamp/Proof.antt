@@ -1,0 +1,19 @@
+-- `field::judge::stamp` meets its contract. Assumes nothing.
+use borrow.Author.Needs.{needs}
+use Rattle.field.proofs.judge.stamp.Statement.{statement}
+use Rattle.field.proofs.judge.stamp.Tie as tie
+
+time-right-requires : tie.Need-time-right-requires
+time-right-requires c κs = search needs
+
+unless-requires : tie.Need-unless-requires
+unless-requires c κs = search needs
+
+unless-requires-2 : tie.Need-unless-requires-2
+unless-requires-2 c κs = search needs
+
+returns : tie.Need-returns
+returns c = cc
+
+pub stamp-spec : {M : Type 1} → statement M
+stamp-spec = tie.close (tie.spec time-right-requires unless-requires unless-requires-2 returns)

@@ -1,0 +1,103 @@
+-- Document 01, "Ranges" and 6 to 11 of "Numbers given when we say no": the first number that the values of one field earn.
+use Prim.Native.Nat.{ℕ, _/_, _%_}
+use mathlib.Core.Bool.{Bool, true, _&&_, cond}
+use lib.Dec.{leb, eqb}
+use lib.IntN.{ℤ, pos, negℤ}
+use lib.Signed.{leZ}
+use Rattle.field.specs.declared.Price.{Price}
+use Rattle.field.specs.declared.Field.{Field}
+use Rattle.field.specs.declared.Field.the-variants.{Header, PreviousClose, Trade, Quote, End}
+
+-- nothing is refused
+abbrev pub fine : ℕ
+fine = 0
+
+-- the number of a test that fails; where it holds the rest decides
+unfoldable pub unless : Bool → ℕ → ℕ → ℕ
+unless test number rest = cond test rest number
+
+-- two tests hold; one of two tests, as a third says; a test of what is present, and of what is absent
+unfoldable pub both : Bool → Bool → Bool
+both a b = a && b
+
+unfoldable pub pick : Bool → Bool → Bool → Bool
+pick which a b = cond which a b
+
+abbrev pub ifPresent : Bool → Bool → Bool
+ifPresent present test = pick present test true
+
+abbrev pub ifAbsent : Bool → Bool → Bool
+ifAbsent present test = pick present true test
+
+-- from a least number to a greatest, both in
+abbrev pub within : ℕ → ℕ → ℕ → Bool
+within low high n = both (leb low n) (leb n high)
+
+abbrev pub centsWithin : ℤ → ℤ → Price → Bool
+centsWithin low high price = both (leZ low (price .cents)) (leZ (price .cents) high)
+
+-- metals 1 to 5, marks up to bit 10
+abbrev pub headerRight : ℕ → ℕ → Bool
+headerRight metal marks = both (within 1 5 metal) (leb marks 2047)
+
+-- instruments 0 to 11
+abbrev pub instrumentRight : ℕ → Bool
+instrumentRight instrument = leb instrument 11
+
+-- times 0 to 86,399,999, and not below the time before
+abbrev pub timeRight : ℕ → ℕ → Bool
+timeRight least time = both (leb time 86399999) (leb least time)
+
+-- outright prices 1 to 99,999,999; spread prices -9,999,999 to 9,999,999
+abbrev pub priceRight : ℕ → Price → Bool
+priceRight instrument price =
+    pick (eqb instrument 0)
+    (centsWithin (pos 1) (pos 99999999) price)
+    (centsWithin (negℤ (pos 9999999)) (pos 9999999) price)
+
+-- lots 1 to 10,000
+abbrev pub lotsRight : ℕ → Bool
+lotsRight lots = within 1 10000 lots
+
+-- the sides byte: bit 0 says the bid, bit 1 the offer
+abbrev pub hasBid : ℕ → Bool
+hasBid sides = eqb (sides % 2) 1
+
+abbrev pub hasOffer : ℕ → Bool
+hasOffer sides = eqb (sides / 2 % 2) 1
+
+-- sides up to 3; an absent side holds zero
+abbrev pub sidesRight : ℕ → Price → Price → Bool
+sidesRight sides bid offer =
+    both (leb sides 3)
+    (both (ifAbsent (hasBid sides) (centsWithin (pos 0) (pos 0) bid))
+    (ifAbsent (hasOffer sides) (centsWithin (pos 0) (pos 0) offer)))
+
+-- the prices of the sides: an absent side isn't tested
+abbrev pub sidePricesRight : ℕ → ℕ → Price → Price → Bool
+sidePricesRight instrument sides bid offer =
+    both (ifPresent (hasBid sides) (priceRight instrument bid))
+    (ifPresent (hasOffer sides) (priceRight instrument offer))
+
+-- the bid is not above the offer where both are present
+abbrev pub ordered : ℕ → Price → Price → Bool
+ordered sides bid offer = ifPresent (both (hasBid sides) (hasOffer sides)) (leZ (bid .cents) (offer .cents))
+
+-- a record's instrument and time, 7 and 8, before the rest of it
+abbrev pub stamped : ℕ → ℕ → ℕ → ℕ → ℕ
+stamped least time instrument rest = unless (instrumentRight instrument) 7 (unless (timeRight least time) 8 rest)
+
+-- the field's values, in the order of the numbers; in a quote 11 for sides and absent zeros stands before 9, and 11 for bid above offer after it
+unfoldable pub judge : ℕ → Field → ℕ
+judge least (Header metal marks) = unless (headerRight metal marks) 6 fine
+judge least (PreviousClose instrument price) = unless (instrumentRight instrument) 7 (unless (priceRight instrument price) 9 fine)
+judge least (Trade time instrument price lots) =
+    stamped least time instrument
+    (unless (priceRight instrument price) 9
+    (unless (lotsRight lots) 10 fine))
+judge least (Quote time instrument sides bid offer) =
+    stamped least time instrument
+    (unless (sidesRight sides bid offer) 11
+    (unless (sidePricesRight instrument sides bid offer) 9
+    (unless (ordered sides bid offer) 11 fine)))
+judge least (End count) = fine

@@ -1,0 +1,6 @@
+pub mod Judging
+pub mod Layout
+pub mod Said
+pub mod Reading
+pub mod Writing
+pub mod Laws

@@ -1,0 +1,34 @@
+-- Document 01, "A writer puts one field into the lent buffer from a given place onward."
+use Prim.Native.Nat.{ℕ, _+_, _-_}
+use mathlib.Core.Bool.{cond}
+use mathlib.Core.List.{List, _++_}
+use lib.Dec.{leb, eqb}
+use lib.ListN.{length, take, drop}
+use Rattle.field.specs.declared.Field.{Field}
+use Rattle.field.specs.Judging.{fine, unless, judge}
+use Rattle.field.specs.Layout.{tagOf, sizeOf, fieldBytes}
+use Rattle.field.specs.Said.{Said, settled}
+
+-- one number, then another where the first found nothing
+unfoldable pub also : ℕ → ℕ → ℕ
+also first rest = cond (eqb first fine) rest first
+
+-- the bytes that the field needs
+abbrev pub fieldSize : Field → ℕ
+fieldSize f = sizeOf (tagOf f)
+
+-- "6, 7, 8 (range only), 9, 10, 11, then 16"; len - at bytes are behind the place, none where it is past the buffer
+unfoldable pub writeNumber : ℕ → ℕ → Field → ℕ
+writeNumber len at f = also (judge 0 f) (unless (leb (fieldSize f) (len - at)) 16 fine)
+
+-- "A refusal .. gives the old place. Success .. gives the place behind them."
+unfoldable pub written : List ℕ → ℕ → Field → Said (Unit {0})
+written b at f = settled (writeNumber (length b) at f) at tt (at + fieldSize f)
+
+-- the bytes at the place, and all else as it was
+abbrev pub over : List ℕ → ℕ → List ℕ → List ℕ
+over b at bytes = take at b ++ (bytes ++ drop (at + length bytes) b)
+
+-- "A refusal changes no byte .. Success changes the field's bytes only"
+unfoldable pub bufferAfter : List ℕ → ℕ → Field → List ℕ
+bufferAfter b at f = cond (eqb (writeNumber (length b) at f) fine) (over b at (fieldBytes f)) b

@@ -1,0 +1,192 @@
+// What document 01's ranges say of a field's values: the first number that they earn, or FINE.
+ghost use mathlib.Core.Path.{_≡_};
+ghost use lib.IntN.{pos};
+ghost use Rattle.field.specs.Judging.{within, centsWithin, ifPresent, ifAbsent, headerRight, timeRight, priceRight, hasBid, hasOffer, sidesRight, sidePricesRight, ordered, stamped};
+ghost use Rattle.field.specs.Judging as Judging;
+ghost use Rattle.field.specs.declared.Field.the-variants as F;
+use crate::Field;
+use crate::Price;
+use crate::number;
+
+// The number of a test that fails; where it holds the rest decides.
+pub fn unless(test: bool, number: u8, rest: u8) -> u8
+    ensures { λ r. ⌜ r ≡ Judging.unless test number rest ⌝ }
+{
+    if test { rest } else { number }
+}
+
+fn both(a: bool, b: bool) -> bool
+    ensures { λ r. ⌜ r ≡ Judging.both a b ⌝ }
+{
+    if a { b } else { false }
+}
+
+fn pick(which: bool, a: bool, b: bool) -> bool
+    ensures { λ r. ⌜ r ≡ Judging.pick which a b ⌝ }
+{
+    if which { a } else { b }
+}
+
+// From a least number to a greatest, both in.
+pub fn is_within(low: u32, high: u32, x: u32) -> bool
+    ensures { λ r. ⌜ r ≡ within low high x ⌝ }
+{
+    both(low <= x, x <= high)
+}
+
+fn cents_within(low: i32, high: i32, price: Price) -> bool
+    ensures { λ r. ⌜ r ≡ centsWithin low high price ⌝ }
+{
+    let cents = price.cents;
+    both(low <= cents, cents <= high)
+}
+
+fn header_right(metal: u8, marks: u16) -> bool
+    ensures { λ r. ⌜ r ≡ headerRight metal marks ⌝ }
+{
+    both(is_within(1, 5, metal as u32), marks <= 2047)
+}
+
+fn time_right(least: u32, time: u32) -> bool
+    ensures { λ r. ⌜ r ≡ timeRight least time ⌝ }
+{
+    both(time <= 86_399_999, least <= time)
+}
+
+// An outright is 1 to 99,999,999 cents, a spread -9,999,999 to 9,999,999.
+fn price_right(instrument: u8, price: Price) -> bool
+    ensures { λ r. ⌜ r ≡ priceRight instrument price ⌝ }
+{
+    pick(
+        instrument == 0,
+        cents_within(1, 99_999_999, price),
+        cents_within(-9_999_999, 9_999_999, price),
+    )
+}
+
+fn has_bid(sides: u8) -> bool
+    ensures { λ r. ⌜ r ≡ hasBid sides ⌝ }
+{
+    sides % 2 == 1
+}
+
+fn has_offer(sides: u8) -> bool
+    ensures { λ r. ⌜ r ≡ hasOffer sides ⌝ }
+{
+    sides / 2 % 2 == 1
+}
+
+fn zero_if_absent(present: bool, price: Price) -> bool
+    ensures { λ r. ⌜ r ≡ ifAbsent present (centsWithin (pos 0) (pos 0) price) ⌝ }
+{
+    pick(present, true, cents_within(0, 0, price))
+}
+
+fn right_if_present(present: bool, instrument: u8, price: Price) -> bool
+    ensures { λ r. ⌜ r ≡ ifPresent present (priceRight instrument price) ⌝ }
+{
+    pick(present, price_right(instrument, price), true)
+}
+
+fn sides_right(sides: u8, bid: Price, offer: Price) -> bool
+    ensures { λ r. ⌜ r ≡ sidesRight sides bid offer ⌝ }
+{
+    let zeros = both(
+        zero_if_absent(has_bid(sides), bid),
+        zero_if_absent(has_offer(sides), offer),
+    );
+    both(sides <= 3, zeros)
+}
+
+fn side_prices_right(instrument: u8, sides: u8, bid: Price, offer: Price) -> bool
+    ensures { λ r. ⌜ r ≡ sidePricesRight instrument sides bid offer ⌝ }
+{
+    both(
+        right_if_present(has_bid(sides), instrument, bid),
+        right_if_present(has_offer(sides), instrument, offer),
+    )
+}
+
+fn in_order(sides: u8, bid: Price, offer: Price) -> bool
+    ensures { λ r. ⌜ r ≡ ordered sides bid offer ⌝ }
+{
+    pick(
+        both(has_bid(sides), has_offer(sides)),
+        bid.cents <= offer.cents,
+        true,
+    )
+}
+
+// A record's instrument and time, before the rest of it.
+fn stamp(least: u32, time: u32, instrument: u8, rest: u8) -> u8
+    ensures { λ r. ⌜ r ≡ stamped least time instrument rest ⌝ }
+{
+    unless(
+        instrument <= 11,
+        number::INSTRUMENT,
+        unless(time_right(least, time), number::TIME, rest),
+    )
+}
+
+fn judge_previous(instrument: u8, price: Price) -> u8
+    ensures { λ r. ⌜ r ≡ Judging.judge 0 (F.PreviousClose instrument price) ⌝ }
+{
+    unless(
+        instrument <= 11,
+        number::INSTRUMENT,
+        unless(price_right(instrument, price), number::PRICE, number::FINE),
+    )
+}
+
+fn judge_trade(least: u32, time: u32, instrument: u8, price: Price, lots: u16) -> u8
+    ensures { λ r. ⌜ r ≡ Judging.judge least (F.Trade time instrument price lots) ⌝ }
+{
+    let rest = unless(
+        price_right(instrument, price),
+        number::PRICE,
+        unless(
+            is_within(1, 10_000, lots as u32),
+            number::LOTS,
+            number::FINE,
+        ),
+    );
+    stamp(least, time, instrument, rest)
+}
+
+fn judge_quote(least: u32, time: u32, instrument: u8, sides: u8, bid: Price, offer: Price) -> u8
+    ensures { λ r. ⌜ r ≡ Judging.judge least (F.Quote time instrument sides bid offer) ⌝ }
+{
+    let prices = unless(
+        side_prices_right(instrument, sides, bid, offer),
+        number::PRICE,
+        unless(in_order(sides, bid, offer), number::SIDES, number::FINE),
+    );
+    let rest = unless(sides_right(sides, bid, offer), number::SIDES, prices);
+    stamp(least, time, instrument, rest)
+}
+
+// The first number that a field's values earn where times must not be below least, or FINE.
+pub fn judge(least: u32, field: Field) -> u8
+    ensures { λ r. ⌜ r ≡ Judging.judge least field ⌝ }
+{
+    match field {
+        Field::Header { metal, marks } => {
+            unless(header_right(metal, marks), number::METAL, number::FINE)
+        }
+        Field::PreviousClose { instrument, price } => judge_previous(instrument, price),
+        Field::Trade {
+            time,
+            instrument,
+            price,
+            lots,
+        } => judge_trade(least, time, instrument, price, lots),
+        Field::Quote {
+            time,
+            instrument,
+            sides,
+            bid,
+            offer,
+        } => judge_quote(least, time, instrument, sides, bid, offer),
+        Field::End { count: _ } => number::FINE,
+    }
+}

@@ -1,0 +1,64 @@
+// A field's tag, its body's length and its size: document 01's table of tags.
+ghost use mathlib.Core.Path.{_≡_};
+ghost use Prim.Native.Nat.{_-_};
+ghost use Rattle.field.specs.Layout.{tagRight, lengthOf, sizeOf, tagOf};
+use crate::Field;
+use crate::judge::is_within;
+
+// The lengths of the bodies, by tag; no tag is 0.
+const LENGTHS: [u16; 6] = [0, 3, 5, 11, 14, 4];
+
+// Tags 1 to 5.
+pub fn tag_right(tag: u8) -> bool
+    ensures { λ r. ⌜ r ≡ tagRight tag ⌝ }
+{
+    is_within(1, 5, tag as u32)
+}
+
+// The length of a tag's body; 0 where there is no such tag.
+pub fn length_of(tag: u8) -> u16
+    ensures { λ r. ⌜ r ≡ lengthOf tag ⌝ }
+{
+    if tag <= 5 { LENGTHS[tag as usize] } else { 0 }
+}
+
+// How many bytes a tag's head and body are.
+pub fn size_of(tag: u8) -> usize
+    ensures { λ r. ⌜ r ≡ sizeOf tag ⌝ }
+{
+    3 + length_of(tag) as usize
+}
+
+// A field's tag.
+pub fn tag_of(field: Field) -> u8
+    ensures { λ r. ⌜ r ≡ tagOf field ⌝ }
+{
+    match field {
+        Field::Header { metal: _, marks: _ } => 1,
+        Field::PreviousClose {
+            instrument: _,
+            price: _,
+        } => 2,
+        Field::Trade {
+            time: _,
+            instrument: _,
+            price: _,
+            lots: _,
+        } => 3,
+        Field::Quote {
+            time: _,
+            instrument: _,
+            sides: _,
+            bid: _,
+            offer: _,
+        } => 4,
+        Field::End { count: _ } => 5,
+    }
+}
+
+// How many bytes remain from a place on: none past the end.
+pub fn remaining(len: usize, at: usize) -> usize
+    ensures { λ r. ⌜ r ≡ len - at ⌝ }
+{
+    if at < len { len - at } else { 0 }
+}

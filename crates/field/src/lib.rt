@@ -1,0 +1,49 @@
+// The five fields of a day sheet: their values, document 01's numbers, and what its ranges say of one field. Hosts don't call it.
+pub mod judge;
+pub mod layout;
+pub mod number;
+
+// A price or a side of a quote, in cents.
+pub struct Price {
+    pub cents: i32,
+}
+
+// The values of a field, each at its full width: what is out of its range is a value too, and is judged as one.
+pub enum Field {
+    Header {
+        metal: u8,
+        marks: u16,
+    },
+    PreviousClose {
+        instrument: u8,
+        price: Price,
+    },
+    Trade {
+        time: u32,
+        instrument: u8,
+        price: Price,
+        lots: u16,
+    },
+    Quote {
+        time: u32,
+        instrument: u8,
+        sides: u8,
+        bid: Price,
+        offer: Price,
+    },
+    End {
+        count: u32,
+    },
+}
+
+// The field at a place with the place behind it, or the number of a refusal with the place asked for.
+pub enum Read {
+    Field(Field, usize),
+    Refused(u8, usize),
+}
+
+// The place behind a field that was written, or the number of a refusal with the place as it was given.
+pub enum Written {
+    Next(usize),
+    Refused(u8, usize),
+}

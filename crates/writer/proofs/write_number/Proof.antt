@@ -1,0 +1,35 @@
+-- `writer::write_number` meets its contract. Assumes nothing.
+use Rattle.field.specs.Writing.{writeNumber}
+use borrow.Author.Needs.{needs}
+use Rattle.writer.proofs.write_number.Statement.{statement}
+use Rattle.writer.proofs.write_number.Tie as tie
+
+field-size-requires : tie.Need-field-size-requires
+field-size-requires c κs = search needs
+
+remaining-requires : tie.Need-remaining-requires
+remaining-requires c κs = search needs
+
+judge-requires : tie.Need-judge-requires
+judge-requires c κs = search needs
+
+unless-requires : tie.Need-unless-requires
+unless-requires c κs = search needs
+
+first-of-requires : tie.Need-first-of-requires
+first-of-requires c κs = search needs
+
+returns : tie.Need-returns
+unfolding writeNumber
+returns c = cc
+
+pub write-number-spec : {M : Type 1} → statement M
+write-number-spec =
+    tie.close
+    (tie.spec
+    field-size-requires
+    remaining-requires
+    judge-requires
+    unless-requires
+    first-of-requires
+    returns)
