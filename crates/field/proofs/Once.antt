@@ -2,6 +2,8 @@
 use Rattle.promise.specs.Once.{Once, once}
 use Rattle.field.proofs.judge.unless.Reads as unless
 use Rattle.field.proofs.judge.unless.Kinds as unlessK
+use Rattle.field.proofs.judge.also.Reads as also
+use Rattle.field.proofs.judge.also.Kinds as alsoK
 use Rattle.field.proofs.judge.is_within.Reads as is-within
 use Rattle.field.proofs.judge.is_within.Kinds as is-withinK
 use Rattle.field.proofs.judge.judge.Reads as judge
@@ -19,6 +21,9 @@ use Rattle.field.proofs.layout.remaining.Kinds as remainingK
 
 pub unless-once : Once 0 unlessK.ps unlessK.r unless.Post (λ κs x s. x)
 unless-once κs a x y s t p q = once p q
+
+pub also-once : Once 0 alsoK.ps alsoK.r also.Post (λ κs x s. x)
+also-once κs a x y s t p q = once p q
 
 pub is-within-once : Once 0 is-withinK.ps is-withinK.r is-within.Post (λ κs x s. x)
 is-within-once κs a x y s t p q = once p q

@@ -16,6 +16,10 @@ fine = 0
 unfoldable pub unless : Bool → ℕ → ℕ → ℕ
 unless test number rest = cond test rest number
 
+-- one number, then another where the first found nothing
+unfoldable pub also : ℕ → ℕ → ℕ
+also first rest = cond (eqb first fine) rest first
+
 -- two tests hold; one of two tests, as a third says; a test of what is present, and of what is absent
 unfoldable pub both : Bool → Bool → Bool
 both a b = a && b

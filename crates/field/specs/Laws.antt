@@ -12,11 +12,11 @@ use lib.Seq.{length-take-le}
 use Rattle.wire.specs.Big.{be2At}
 use Rattle.field.specs.declared.Field.{Field}
 use Rattle.field.specs.declared.Field.the-variants.{Header, PreviousClose, Trade, Quote, End}
-use Rattle.field.specs.Judging.{fine, unless, both, pick, within, judge}
+use Rattle.field.specs.Judging.{fine, unless, also, both, pick, within, judge}
 use Rattle.field.specs.Layout.{tagRight, lengthOf, sizeOf, tagOf, bodyBytes, fieldBytes, fieldOf}
 use Rattle.field.specs.Said.{Said, gives, refuses, settled}
 use Rattle.field.specs.Reading.{remaining, taggedNumber, headNumber, bodyAt, shapeBy, shapeAt, judged, readField, partOf, bodyOf}
-use Rattle.field.specs.Writing.{also, fieldSize, writeNumber, written, over, bufferAfter}
+use Rattle.field.specs.Writing.{fieldSize, writeNumber, written, over, bufferAfter}
 
 -- what is false proves anything
 pub clash : {A : Type 0} → _≡_ {A = ℕ} 0 1 → A

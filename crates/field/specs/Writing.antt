@@ -5,13 +5,9 @@ use mathlib.Core.List.{List, _++_}
 use lib.Dec.{leb, eqb}
 use lib.ListN.{length, take, drop}
 use Rattle.field.specs.declared.Field.{Field}
-use Rattle.field.specs.Judging.{fine, unless, judge}
+use Rattle.field.specs.Judging.{fine, unless, also, judge}
 use Rattle.field.specs.Layout.{tagOf, sizeOf, fieldBytes}
 use Rattle.field.specs.Said.{Said, settled}
-
--- one number, then another where the first found nothing
-unfoldable pub also : ℕ → ℕ → ℕ
-also first rest = cond (eqb first fine) rest first
 
 -- the bytes that the field needs
 abbrev pub fieldSize : Field → ℕ

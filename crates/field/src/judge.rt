@@ -15,6 +15,13 @@ pub fn unless(test: bool, number: u8, rest: u8) -> u8
     if test { rest } else { number }
 }
 
+// One number, then another where the first found nothing.
+pub fn also(first: u8, rest: u8) -> u8
+    ensures { λ r. ⌜ r ≡ Judging.also first rest ⌝ }
+{
+    if first == number::FINE { rest } else { first }
+}
+
 fn both(a: bool, b: bool) -> bool
     ensures { λ r. ⌜ r ≡ Judging.both a b ⌝ }
 {

@@ -7,11 +7,12 @@ ghost use lib.ListN.{length};
 ghost use Rattle.wire.specs.Big.{bytes4, put};
 ghost use Rattle.field.specs.Layout.{lengthOf, tagOf, headBytes, bodyBytes, fieldBytes, priceBytes};
 ghost use Rattle.field.specs.Said.{writtenSays};
-ghost use Rattle.field.specs.Writing.{also, fieldSize, writeNumber, written, bufferAfter};
+ghost use Rattle.field.specs.Writing.{fieldSize, writeNumber, written, bufferAfter};
 ghost use Rattle.field.specs.declared.Field.the-variants as F;
 use field::Field;
 use field::Price;
 use field::Written;
+use field::judge::also;
 use field::judge::judge;
 use field::judge::unless;
 use field::layout::length_of;
@@ -23,13 +24,6 @@ use wire::put_signed;
 use wire::put1;
 use wire::put2;
 use wire::put4;
-
-// One number, then another where the first found nothing.
-fn first_of(first: u8, rest: u8) -> u8
-    ensures { λ r. ⌜ r ≡ also first rest ⌝ }
-{
-    if first == number::FINE { rest } else { first }
-}
 
 // How many bytes a field needs.
 pub fn field_size(field: Field) -> usize
@@ -43,7 +37,7 @@ fn write_number(len: usize, at: usize, field: Field) -> u8
     ensures { λ r. ⌜ r ≡ writeNumber len at field ⌝ }
 {
     let fits = field_size(field) <= remaining(len, at);
-    first_of(judge(0, field), unless(fits, number::ROOM, number::FINE))
+    also(judge(0, field), unless(fits, number::ROOM, number::FINE))
 }
 
 fn put_head(part: &mut [u8], tag: u8)

@@ -16,8 +16,8 @@ judge-requires c κs = search needs
 unless-requires : tie.Need-unless-requires
 unless-requires c κs = search needs
 
-first-of-requires : tie.Need-first-of-requires
-first-of-requires c κs = search needs
+also-requires : tie.Need-also-requires
+also-requires c κs = search needs
 
 returns : tie.Need-returns
 unfolding writeNumber
@@ -31,5 +31,5 @@ write-number-spec =
     remaining-requires
     judge-requires
     unless-requires
-    first-of-requires
+    also-requires
     returns)
