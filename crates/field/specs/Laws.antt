@@ -111,6 +111,15 @@ headed s at tag e =
       whole = omega (arith, leb-true 3 (remaining s at) (u .0), leb-true (sizeOf tag) (remaining s at) (x .0));
     }
 
+-- and such a head earns no number
+pub head-fine : (s : List ℕ) (at tag : ℕ) → Headed s at tag → headNumber s at tag ≡ fine
+unfolding headNumber
+head-fine s at tag h =
+    unless-passed _ 2 _ (le-leb 3 (remaining s at) (h .some))
+    ∙ unless-passed _ 3 _ (h .tagged)
+    ∙ unless-passed _ 4 _ (eq-eqb _ _ (h .told))
+    ∙ unless-passed _ 2 _ (le-leb (sizeOf tag) (remaining s at) (omega (arith, h .whole)))
+
 -- the body is the part from behind the head to the place behind the field, and as long as the tag says
 pub part-is : (s : List ℕ) (at tag : ℕ) → take (at + sizeOf tag - (at + 3)) (drop (at + 3) s) ≡ bodyAt s at tag
 part-is s at tag = let n : at + sizeOf tag - (at + 3) ≡ lengthOf tag = omega arith in simp n
@@ -208,6 +217,11 @@ may-write len at f e =
     let v = unless-fine (leb (fieldSize f) (len - at)) 15 fine (u .1) in
     record { right = u .0; room = omega (arith, leb-true (fieldSize f) (len - at) (v .0)) }
 
+-- and such a field earns no number
+pub write-fine : (len at : ℕ) (f : Field) → MayWrite len at f → writeNumber len at f ≡ fine
+unfolding writeNumber also
+write-fine len at f m = simp (m .right) (unless-passed _ 16 _ (le-leb (fieldSize f) (len - at) (omega (arith, m .room))))
+
 -- what is written, and what the buffer then holds, by the number found
 pub written-fine : (b : List ℕ) (at : ℕ) (f : Field) → writeNumber (length b) at f ≡ fine → (written b at f ≡ gives tt (at + fieldSize f)) × (bufferAfter b at f ≡ over b at (fieldBytes f))
 unfolding written bufferAfter
@@ -216,3 +230,14 @@ written-fine b at f e = (settled-fine _ at tt _ e, simp (eq-eqb _ fine e))
 pub written-not : (b : List ℕ) (at : ℕ) (f : Field) → (writeNumber (length b) at f ≡ fine → ⊥) → (written b at f ≡ refuses (writeNumber (length b) at f) at) × (bufferAfter b at f ≡ b)
 unfolding written bufferAfter
 written-not b at f e = (settled-not _ at tt _ e, simp (ne-eqb _ fine e))
+
+-- a field that was written earned no number, and the place given is the one behind it
+pub record WrittenOk (b : List ℕ) (at : ℕ) (f : Field) (next : ℕ) : Type 0 where
+  pub none : writeNumber (length b) at f ≡ fine
+  pub behind : at + fieldSize f ≡ next
+
+pub written-ok : (b : List ℕ) (at : ℕ) (f : Field) (next : ℕ) → written b at f ≡ gives tt next → WrittenOk b at f next
+unfolding written
+written-ok b at f next e =
+    let g = settled-gives (writeNumber (length b) at f) at tt tt (at + fieldSize f) next e in
+    record { none = g .none; behind = g .place }
