@@ -1,0 +1,39 @@
+-- `admit::admit_number` meets its contract. Assumes nothing.
+use Rattle.admit.specs.Admitting.{admitNumber}
+use borrow.Author.Needs.{needs}
+use Rattle.admit.proofs.admit_number.Statement.{statement}
+use Rattle.admit.proofs.admit_number.Tie as tie
+
+judge-requires : tie.Need-judge-requires
+judge-requires c κs = search needs
+
+count-number-requires : tie.Need-count-number-requires
+count-number-requires c κs = search needs
+
+also-requires : tie.Need-also-requires
+also-requires c κs = search needs
+
+is-placed-requires : tie.Need-is-placed-requires
+is-placed-requires c κs = search needs
+
+unless-requires : tie.Need-unless-requires
+unless-requires c κs = search needs
+
+unless-requires-2 : tie.Need-unless-requires-2
+unless-requires-2 c κs = search needs
+
+returns : tie.Need-returns
+unfolding admitNumber
+returns c = cc
+
+pub admit-number-spec : {M : Type 1} → statement M
+admit-number-spec =
+    tie.close
+    (tie.spec
+    judge-requires
+    count-number-requires
+    also-requires
+    is-placed-requires
+    unless-requires
+    unless-requires-2
+    returns)

@@ -1,0 +1,89 @@
+-- Document 01, "One header first; then previous closes with rising instrument; then trades and quotes with times that never fall; then one
+-- end", and the order "5, then 6 to 12": whether a field may come next, and what is kept behind it.
+use Prim.Native.Nat.{ℕ, _+_}
+use mathlib.Core.Bool.{Bool, cond}
+use mathlib.Core.Path.{_≡_, refl}
+use lib.Dec.{leb, ltb, eqb}
+use Rattle.promise.specs.Once.{through}
+use Rattle.field.specs.declared.Field.{Field}
+use Rattle.field.specs.declared.Field.the-variants.{Header, PreviousClose, Trade, Quote, End}
+use Rattle.field.specs.Judging.{fine, unless, also, both, judge}
+use Rattle.admit.specs.declared.Progress.{Progress}
+use Rattle.admit.specs.declared.Admitted.{Admitted}
+use Rattle.admit.specs.declared.Admitted.the-variants as A
+
+-- before the first field
+abbrev pub start : Progress
+start = record { stage = 0; instrument = 0; time = 0; count = 0; metal = 0; marks = 0 }
+
+-- 5: one header first; then previous closes, each instrument above the one before; then trades and quotes; then one end
+unfoldable pub previousPlaced : Progress → ℕ → Bool
+previousPlaced p instrument = both (eqb (p .stage) 1) (leb (p .instrument) instrument)
+
+unfoldable pub placed : Progress → Field → Bool
+placed p (Header metal marks) = eqb (p .stage) 0
+placed p (PreviousClose instrument price) = previousPlaced p instrument
+placed p (Trade time instrument price lots) = leb 1 (p .stage)
+placed p (Quote time instrument sides bid offer) = leb 1 (p .stage)
+placed p (End count) = leb 1 (p .stage)
+
+-- 12: the end's count is that of the fields before it
+unfoldable pub countNumber : Progress → Field → ℕ
+countNumber p (Header metal marks) = fine
+countNumber p (PreviousClose instrument price) = fine
+countNumber p (Trade time instrument price lots) = fine
+countNumber p (Quote time instrument sides bid offer) = fine
+countNumber p (End count) = unless (eqb count (p .count)) 12 fine
+
+-- 5, then 6 to 11 with the time before as the least, then 12. A sheet with as many fields before as it may have bytes is too long: 1, before all
+unfoldable pub admitNumber : Progress → Field → ℕ
+admitNumber p f =
+    unless (ltb (p .count) 1048576) 1
+    (unless (placed p f) 5
+    (also (judge (p .time) f) (countNumber p f)))
+
+-- what is kept behind a header, a previous close, and a record
+abbrev pub afterHeader : Progress → ℕ → ℕ → Progress
+afterHeader p metal marks = record { stage = 1; instrument = p .instrument; time = p .time; count = p .count + 1; metal = metal; marks = marks }
+
+abbrev pub afterPrevious : Progress → ℕ → Progress
+afterPrevious p instrument = record { stage = 1; instrument = instrument + 1; time = p .time; count = p .count + 1; metal = p .metal; marks = p .marks }
+
+abbrev pub afterRecord : Progress → ℕ → Progress
+afterRecord p time = record { stage = 2; instrument = p .instrument; time = time; count = p .count + 1; metal = p .metal; marks = p .marks }
+
+-- what is said of a field that comes next: on it goes, with what is kept; it is the end; or no, with a number of the table
+pub data Step : Type 0 where
+  goes : Progress → Step
+  ends : Step
+  stops : ℕ → Step
+
+unfoldable pub admitted : Progress → Field → Step
+admitted p (Header metal marks) = goes (afterHeader p metal marks)
+admitted p (PreviousClose instrument price) = goes (afterPrevious p instrument)
+admitted p (Trade time instrument price lots) = goes (afterRecord p time)
+admitted p (Quote time instrument sides bid offer) = goes (afterRecord p time)
+admitted p (End count) = ends
+
+unfoldable pub admit : Progress → Field → Step
+admit p f = cond (eqb (admitNumber p f) fine) (admitted p f) (stops (admitNumber p f))
+
+-- ---- what each answer of the code says; no two say the same
+
+abbrev pub admitSays : Admitted → Step
+admitSays (A.Next q) = goes q
+admitSays A.Ended = ends
+admitSays (A.Refused number) = stops number
+
+abbrev admit-of : Step → Admitted
+admit-of (goes q) = A.Next q
+admit-of ends = A.Ended
+admit-of (stops number) = A.Refused number
+
+admit-back : (r : Admitted) → admit-of (admitSays r) ≡ r
+admit-back (A.Next q) = refl
+admit-back A.Ended = refl
+admit-back (A.Refused number) = refl
+
+pub admit-once : {d : Step} {x y : Admitted} → admitSays x ≡ d → admitSays y ≡ d → x ≡ y
+admit-once p q = through admitSays admit-of admit-back p q
