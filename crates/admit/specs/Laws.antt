@@ -76,3 +76,35 @@ stopped p f n e = by-test (eqb (admitNumber p f) fine) refl
     by-test : (b : Bool) → eqb (admitNumber p f) fine ≡ b → admitNumber p f ≡ n
     by-test true h = absurd (taken-free p f n (simp h at e))
     by-test false h = let g : stops (admitNumber p f) ≡ stops n = simp h at e in cc
+
+-- ---- what is kept behind a field that was admitted
+
+-- the progress of a step that goes on
+abbrev keptOf : Progress → Step → Progress
+keptOf p (goes q) = q
+keptOf p ends = p
+keptOf p (stops number) = p
+
+-- the time behind a field: a record's own, and the one before it behind any other
+unfoldable pub timeFrom : ℕ → Field → ℕ
+timeFrom t (Header metal marks) = t
+timeFrom t (PreviousClose instrument price) = t
+timeFrom t (Trade time instrument price lots) = time
+timeFrom t (Quote time instrument sides bid offer) = time
+timeFrom t (End count) = t
+
+taken-kept : (p : Progress) (f : Field) (q : Progress) → admitted p f ≡ goes q → (q .count ≡ p .count + 1) × (q .time ≡ timeFrom (p .time) f)
+unfolding admitted timeFrom
+taken-kept p (Header metal marks) q e = (ap (λ (x : Step). keptOf p x .count) (sym e), ap (λ (x : Step). keptOf p x .time) (sym e))
+taken-kept p (PreviousClose instrument price) q e = (ap (λ (x : Step). keptOf p x .count) (sym e), ap (λ (x : Step). keptOf p x .time) (sym e))
+taken-kept p (Trade time instrument price lots) q e = (ap (λ (x : Step). keptOf p x .count) (sym e), ap (λ (x : Step). keptOf p x .time) (sym e))
+taken-kept p (Quote time instrument sides bid offer) q e = (ap (λ (x : Step). keptOf p x .count) (sym e), ap (λ (x : Step). keptOf p x .time) (sym e))
+taken-kept p (End count) q e = clash cc
+
+-- one field more is counted
+pub went-counts : (p : Progress) (f : Field) (q : Progress) → admit p f ≡ goes q → q .count ≡ p .count + 1
+went-counts p f q e = taken-kept p f q (went p f q e .1) .0
+
+-- and its time, where it is a record, is kept
+pub went-times : (p : Progress) (f : Field) (q : Progress) → admit p f ≡ goes q → q .time ≡ timeFrom (p .time) f
+went-times p f q e = taken-kept p f q (went p f q e .1) .1

@@ -9,7 +9,7 @@ admit-number-requires : tie.Need-admit-number-requires
 admit-number-requires c κs = search needs
 
 returns : tie.Need-returns
-returns c = 
+returns c =
     let found = c .before .admit-number .ensures in
     rw found (sym (admit-not _ _ (rw found at (c .if1 .taken))))
 
@@ -17,7 +17,7 @@ taken-requires : tie.Need-taken-requires
 taken-requires c κs = passed _ _ (sym (c .before .admit-number .ensures) ∙ c .if1 .left) .room
 
 returns-2 : tie.Need-returns-2
-returns-2 c = 
+returns-2 c =
     let none = c .before in
     c .taken .ensures ∙ sym (admit-fine _ _ (sym (none .before .admit-number .ensures) ∙ none .if1 .left))
 
