@@ -2,7 +2,7 @@
 -- Assumes nothing.
 use Prim.Native.Nat.{ℕ, _+_, _-_, _≤_, _<_}
 use mathlib.Core.Path.{_≡_, refl, sym, ap, _∙_}
-use mathlib.Core.Bool.{Bool, true, false}
+use mathlib.Core.Bool.{Bool, true, false, cond}
 use mathlib.Core.List.{List, []}
 use native.Mathlib.Omega.{arith}
 use borrow.Author.Tests.{leb-true, eqb-true, ne-eqb, eq-eqb, le-leb, lt-leb}
@@ -38,10 +38,41 @@ unfolding unless
 unless-fine true n rest e = (refl, e)
 unless-fine false n rest e = absurd (omega arith)
 
+-- what holds of the number and of what the rest says holds of what a chain says
+pub unless-all : (P : ℕ → Type 0) (test : Bool) {n rest : ℕ} → P n → P rest → P (unless test n rest)
+unfolding unless
+unless-all P true h r = r
+unless-all P false h r = h
+
+pub also-all : (P : ℕ → Type 0) (first rest : ℕ) → P first → P rest → P (also first rest)
+unfolding also
+also-all P first rest h r = by-test (eqb first fine)
+  where
+    by-test : (t : Bool) → P (cond t rest first)
+    by-test true = r
+    by-test false = h
+
+-- the numbers that values can earn, and those of a shape
+pub judge-all : (P : ℕ → Type 0) → P fine → P 6 → P 7 → P 8 → P 9 → P 10 → P 11 → (least : ℕ) (f : Field) → P (judge least f)
+unfolding judge
+judge-all P z p6 p7 p8 p9 p10 p11 least (Header metal marks) = unless-all P _ p6 z
+judge-all P z p6 p7 p8 p9 p10 p11 least (PreviousClose instrument price) = unless-all P _ p7 (unless-all P _ p9 z)
+judge-all P z p6 p7 p8 p9 p10 p11 least (Trade time instrument price lots) = unless-all P _ p7 (unless-all P _ p8 (unless-all P _ p9 (unless-all P _ p10 z)))
+judge-all P z p6 p7 p8 p9 p10 p11 least (Quote time instrument sides bid offer) = unless-all P _ p7 (unless-all P _ p8 (unless-all P _ p11 (unless-all P _ p9 (unless-all P _ p11 z))))
+judge-all P z p6 p7 p8 p9 p10 p11 least (End count) = z
+
+pub head-all : (P : ℕ → Type 0) → P fine → P 2 → P 3 → P 4 → (s : List ℕ) (at tag : ℕ) → P (headNumber s at tag)
+unfolding headNumber
+head-all P z p2 p3 p4 s at tag = unless-all P _ p2 (unless-all P _ p3 (unless-all P _ p4 (unless-all P _ p2 z)))
+
 pub both-true : (a b : Bool) → both a b ≡ true → (a ≡ true) × (b ≡ true)
 unfolding both
 both-true true b e = (refl, e)
 both-true false b e = clash cc
+
+pub both-holds : (a b : Bool) → a ≡ true → b ≡ true → both a b ≡ true
+unfolding both
+both-holds a b p q = simp (p, q)
 
 pub within-true : (low high n : ℕ) → within low high n ≡ true → (low ≤ n) × (n ≤ high)
 within-true low high n e =
@@ -241,3 +272,12 @@ unfolding written
 written-ok b at f next e =
     let g = settled-gives (writeNumber (length b) at f) at tt tt (at + fieldSize f) next e in
     record { none = g .none; behind = g .place }
+
+-- a shape that is refused earned its number, at the place asked for
+pub shape-refused : (s : List ℕ) (at number place : ℕ) → shapeAt s at ≡ refuses number place → (headNumber s at (getD s at 0) ≡ number) × (at ≡ place)
+unfolding shapeAt settled
+shape-refused s at number place e = by-test (eqb (headNumber s at (getD s at 0)) fine) refl
+  where
+    by-test : (t : Bool) → eqb (headNumber s at (getD s at 0)) fine ≡ t → (headNumber s at (getD s at 0) ≡ number) × (at ≡ place)
+    by-test true h = let g = simp h at e in clash cc
+    by-test false h = let g : _≡_ {A = Said Field} (refuses (headNumber s at (getD s at 0)) at) (refuses number place) = simp h at e in (cc, cc)

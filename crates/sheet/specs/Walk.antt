@@ -8,13 +8,13 @@ use Prim.Native.Nat.{ℕ, zero, suc, _+_, _-_, _<_, _≤_}
 use mathlib.Core.Path.{_≡_, refl, sym, _∙_, ap}
 use mathlib.Core.List.{List, [], _∷_}
 use native.Mathlib.Omega.{arith}
-use lib.ListN.{length}
+use lib.ListN.{length, getD}
 use Rattle.field.specs.declared.Field.{Field}
 use Rattle.field.specs.declared.Read.{Read}
 use Rattle.field.specs.declared.Read.the-variants as R
 use Rattle.field.specs.Said.{Said, gives, refuses, readSays}
-use Rattle.field.specs.Reading.{shapeAt}
-use Rattle.field.specs.Laws.{shape-inside}
+use Rattle.field.specs.Reading.{headNumber, shapeAt}
+use Rattle.field.specs.Laws.{shape-inside, shape-not, head-short}
 use Rattle.sheet.specs.Fields.{behind, readsFrom, readsAt, fieldsIn, fieldsAt}
 
 -- a field that stands at a place ends behind it, and within the sheet
@@ -83,3 +83,9 @@ read-stopped s at e d = sym e ∙ ap readSays d
 -- fewer bytes are left behind a field
 pub less-read : (s : List ℕ) (at : ℕ) {r : Read} {f : Field} {next : ℕ} → readSays r ≡ shapeAt s at → r ≡ R.Field f next → length s - next < length s - at
 less-read s at e d = let g = shape-grows s at (read-gave s at e d) in omega arith
+
+-- at the sheet's end and past it nothing stands
+pub shape-past : (s : List ℕ) (at : ℕ) → length s ≤ at → shapeAt s at ≡ refuses 2 at
+shape-past s at h =
+    let two : headNumber s at (getD s at 0) ≡ 2 = head-short s at (getD s at 0) (omega arith) in
+    shape-not s at (λ e. omega arith) ∙ ap (λ (n : ℕ). refuses n at) two

@@ -1,0 +1,87 @@
+-- Passes over a sheet's bytes, one for all: a sum that grows by a number for each field, and a state that each field changes. For each, the
+-- loop's invariant as a record, and a law for each place of a loop that reads by `shape_at` until it refuses:
+--     loop { match shape_at(sheet, at) { Read::Field(field, next) => { total = total + number_of(field); at = next; } Read::Refused(_, _) => { return total; } } }
+-- A pass in another crate states its invariant by the record and answers each need by `search summing` or `search running`.
+-- Assumes nothing.
+use Prim.Native.Nat.{ℕ, _+_, _*_, _^_, _<_, _≤_}
+use mathlib.Core.Path.{_≡_, refl, sym, _∙_, ap}
+use mathlib.Core.Bool.{true}
+use mathlib.Core.List.{List, [], _∷_}
+use native.Mathlib.Nat.{zero-add, mul-suc, mul-le-mul-left, mul-le-mul}
+use native.Mathlib.Omega.{arith}
+use borrow.Author.Needs.{needs}
+use borrow.Author.Tests.{leb-true}
+use lib.Dec.{leb}
+use lib.ListN.{length}
+use mir.Syntax.{w64}
+use mir.Val.{Fits}
+use Rattle.field.specs.declared.Field.{Field}
+use Rattle.field.specs.declared.Read.{Read}
+use Rattle.field.specs.declared.Read.the-variants as R
+use Rattle.field.specs.Said.{readSays}
+use Rattle.field.specs.Reading.{shapeAt}
+use Rattle.sheet.specs.Fields.{fieldsAt, fieldsOf, sumOver, runOver}
+use Rattle.sheet.specs.Walk.{shape-grows, fields-gave, fields-stop, read-gave, read-stopped, less-read}
+
+-- no field adds more
+abbrev pub AtMost : (Field → ℕ) → ℕ → List Field → Type 0
+AtMost m most [] = Unit {0}
+AtMost m most (f ∷ fs) = (m f ≤ most) × AtMost m most fs
+
+-- `total` is the sum over the fields before `at`; a field adds at most `most`, so the sum is at most that for each byte passed
+pub record Summing (m : Field → ℕ) (most : ℕ) (s : List ℕ) (at total : ℕ) : Type 0 where
+  pub within : at ≤ length s
+  pub bound : total ≤ most * at
+  pub each : AtMost m most (fieldsAt s at)
+  pub same : total + sumOver m (fieldsAt s at) ≡ sumOver m (fieldsOf s)
+
+pub sum-start : (m : Field → ℕ) (most : ℕ) (s : List ℕ) → AtMost m most (fieldsOf s) → Summing m most s 0 0
+sum-start m most s h = record { within = omega arith; bound = omega arith; each = h; same = zero-add _ }
+
+module _ (m : Field → ℕ) (most : ℕ) (s : List ℕ) (at total : ℕ) (o : Summing m most s at total) {r : Read} (e : readSays r ≡ shapeAt s at) where
+  pub sum-stop : {number place : ℕ} → r ≡ R.Refused number place → total ≡ sumOver m (fieldsOf s)
+  unfolding sumOver
+  sum-stop d = omega (arith, o .same, ap (sumOver m) (fields-stop s at (read-stopped s at e d)))
+
+  module _ {f : Field} {next : ℕ} (d : r ≡ R.Field f next) {x : ℕ} (k : x ≡ m f) where
+    pub sum-next : Summing m most s next (total + x)
+    unfolding sumOver
+    sum-next =
+        let g = shape-grows s at (read-gave s at e d) in
+        let q = fields-gave s at (read-gave s at e d) in
+        let h = ap (sumOver m) q in
+        let l : AtMost m most (f ∷ fieldsAt s next) = rw q at (o .each) in
+        record {
+          within = g .1;
+          bound = omega (arith, o .bound, l .0, mul-le-mul-left most (g .0), mul-suc most at);
+          each = l .1;
+          same = omega (arith, o .same);
+        }
+
+    -- a sheet has at most 1,048,576 bytes, so that the sum fits
+    pub sum-fits : length s ≤ 1048576 → leb most (2 ^ 43) ≡ true → Fits w64 (total + x)
+    sum-fits h b =
+        let n = sum-next in
+        let q = mul-le-mul (leb-true most (2 ^ 43) b) h in
+        record { fits = omega (arith, n .bound, mul-le-mul-left most (n .within), q) }
+
+pub ruleset summing = (sum-start, sum-stop, sum-next, sum-fits, less-read, needs)
+
+-- `a` is the state after the fields before `at`
+pub record Running {A : Type 0} (g : A → Field → A) (z : A) (s : List ℕ) (at : ℕ) (a : A) : Type 0 where
+  pub within : at ≤ length s
+  pub same : runOver g a (fieldsAt s at) ≡ runOver g z (fieldsOf s)
+
+pub run-start : {A : Type 0} (g : A → Field → A) (z : A) (s : List ℕ) {a : A} → a ≡ z → Running g z s 0 a
+run-start g z s e = rw e (record { within = omega arith; same = refl })
+
+module _ {A : Type 0} (g : A → Field → A) (z : A) (s : List ℕ) (at : ℕ) (a : A) (o : Running g z s at a) {r : Read} (e : readSays r ≡ shapeAt s at) where
+  pub run-stop : {number place : ℕ} → r ≡ R.Refused number place → a ≡ runOver g z (fieldsOf s)
+  unfolding runOver
+  run-stop d = sym (ap (runOver g a) (fields-stop s at (read-stopped s at e d))) ∙ o .same
+
+  pub run-next : {f : Field} {next : ℕ} {b : A} → r ≡ R.Field f next → b ≡ g a f → Running g z s next b
+  unfolding runOver
+  run-next d k = rw k (record { within = shape-grows s at (read-gave s at e d) .1; same = sym (ap (runOver g a) (fields-gave s at (read-gave s at e d))) ∙ o .same })
+
+pub ruleset running = (run-start, run-stop, run-next, less-read, needs)
