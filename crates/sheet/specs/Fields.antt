@@ -1,5 +1,6 @@
 -- A sheet as a list: what stands at byte 0, at the place behind that, and so on. Any bytes have such a list; its last entry is a refusal.
 use Prim.Native.Nat.{ℕ, zero, suc, _+_, _-_}
+use mathlib.Core.Bool.{Bool, true, false}
 use mathlib.Core.List.{List, [], _∷_, _++_}
 use lib.ListN.{length}
 use Rattle.field.specs.declared.Field.{Field}
@@ -38,11 +39,23 @@ unfoldable pub encode : List Field → List ℕ
 encode [] = []
 encode (f ∷ fs) = fieldBytes f ++ encode fs
 
--- a sum over fields, and a state that each field changes
+-- a sum over fields
 unfoldable pub sumOver : (Field → ℕ) → List Field → ℕ
 sumOver m [] = 0
 sumOver m (f ∷ fs) = m f + sumOver m fs
 
+-- how many fields pass a test: the sum of 1 for each
+unfoldable pub oneIf : Bool → ℕ
+oneIf true = 1
+oneIf false = 0
+
+unfoldable pub counted : (Field → Bool) → Field → ℕ
+counted test f = oneIf (test f)
+
+abbrev pub countOver : (Field → Bool) → List Field → ℕ
+countOver test fs = sumOver (counted test) fs
+
+-- a state that each field changes
 unfoldable pub runOver : {A : Type 0} → (A → Field → A) → A → List Field → A
 runOver g a [] = a
 runOver g a (f ∷ fs) = runOver g (g a f) fs

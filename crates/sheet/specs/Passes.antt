@@ -1,11 +1,11 @@
 -- Passes over a sheet's bytes, one for all: a sum that grows by a number for each field, and a state that each field changes. For each, the
 -- loop's invariant as a record, and a law for each place of a loop that reads by `shape_at` until it refuses:
 --     loop { match shape_at(sheet, at) { Read::Field(field, next) => { total = total + number_of(field); at = next; } Read::Refused(_, _) => { return total; } } }
--- A pass in another crate states its invariant by the record and answers each need by `search summing` or `search running`.
+-- A pass in another crate states its invariant by the record and answers each need by `search summing`, `search counting` or `search running`.
 -- Assumes nothing.
 use Prim.Native.Nat.{ℕ, _+_, _*_, _^_, _<_, _≤_}
 use mathlib.Core.Path.{_≡_, refl, sym, _∙_, ap}
-use mathlib.Core.Bool.{true}
+use mathlib.Core.Bool.{Bool, true, false}
 use mathlib.Core.List.{List, [], _∷_}
 use native.Mathlib.Nat.{zero-add, mul-suc, mul-le-mul-left, mul-le-mul}
 use native.Mathlib.Omega.{arith}
@@ -20,7 +20,7 @@ use Rattle.field.specs.declared.Read.{Read}
 use Rattle.field.specs.declared.Read.the-variants as R
 use Rattle.field.specs.Said.{readSays}
 use Rattle.field.specs.Reading.{shapeAt}
-use Rattle.sheet.specs.Fields.{fieldsAt, fieldsOf, sumOver, runOver}
+use Rattle.sheet.specs.Fields.{fieldsAt, fieldsOf, sumOver, oneIf, counted, runOver}
 use Rattle.sheet.specs.Walk.{shape-grows, fields-gave, fields-stop, read-gave, read-stopped, less-read}
 
 -- no field adds more
@@ -58,14 +58,49 @@ module _ (m : Field → ℕ) (most : ℕ) (s : List ℕ) (at total : ℕ) (o : S
           same = omega (arith, o .same);
         }
 
-    -- a sheet has at most 1,048,576 bytes, so that the sum fits
+    -- the sum fits where what all bytes could add does
+    pub sum-fits-by : most * length s < 2 ^ 64 → Fits w64 (total + x)
+    sum-fits-by h = let n = sum-next in record { fits = omega (arith, n .bound, mul-le-mul-left most (n .within)) }
+
+    -- as it does in a sheet of at most 1,048,576 bytes
     pub sum-fits : length s ≤ 1048576 → leb most (2 ^ 43) ≡ true → Fits w64 (total + x)
-    sum-fits h b =
-        let n = sum-next in
-        let q = mul-le-mul (leb-true most (2 ^ 43) b) h in
-        record { fits = omega (arith, n .bound, mul-le-mul-left most (n .within), q) }
+    sum-fits h b = sum-fits-by (omega (arith, mul-le-mul (leb-true most (2 ^ 43) b) h))
 
 pub ruleset summing = (sum-start, sum-stop, sum-next, sum-fits, less-read, needs)
+
+-- ---- a count of the fields that pass a test
+
+one-most : (b : Bool) → oneIf b ≤ 1
+unfolding oneIf
+one-most true = omega arith
+one-most false = omega arith
+
+-- `total` fields before `at` pass the test
+abbrev pub Counting : (Field → Bool) → List ℕ → ℕ → ℕ → Type 0
+Counting test s at total = Summing (counted test) 1 s at total
+
+-- a field adds at most one, whatever the test
+count-most : (test : Field → Bool) (f : Field) → counted test f ≤ 1
+unfolding counted
+count-most test f = one-most (test f)
+
+count-each : (test : Field → Bool) (fs : List Field) → AtMost (counted test) 1 fs
+count-each test [] = tt
+count-each test (f ∷ fs) = (count-most test f, count-each test fs)
+
+pub count-start : (test : Field → Bool) (s : List ℕ) → Counting test s 0 0
+count-start test s = sum-start (counted test) 1 s (count-each test (fieldsOf s))
+
+-- what `one_if` adds for a field whose test was made
+pub count-is : (test : Field → Bool) (f : Field) {b : Bool} {x : ℕ} → b ≡ test f → x ≡ oneIf b → x ≡ counted test f
+unfolding counted
+count-is test f e h = h ∙ ap oneIf e
+
+-- no more fields are counted than there are bytes, so that the count fits as the length does
+pub count-fits : (test : Field → Bool) (s : List ℕ) (at total : ℕ) → Counting test s at total → {r : Read} → readSays r ≡ shapeAt s at → {f : Field} {next : ℕ} → r ≡ R.Field f next → {x : ℕ} → x ≡ counted test f → length s < 2 ^ 64 → Fits w64 (total + x)
+count-fits test s at total o e d k h = sum-fits-by (counted test) 1 s at total o e d k (omega arith)
+
+pub ruleset counting = (count-start, sum-stop, sum-next, count-is, count-fits, less-read, needs)
 
 -- `a` is the state after the fields before `at`
 pub record Running {A : Type 0} (g : A → Field → A) (z : A) (s : List ℕ) (at : ℕ) (a : A) : Type 0 where

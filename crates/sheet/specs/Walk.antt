@@ -80,8 +80,11 @@ read-gave s at e d = sym e ∙ ap readSays d
 pub read-stopped : (s : List ℕ) (at : ℕ) {r : Read} {number place : ℕ} → readSays r ≡ shapeAt s at → r ≡ R.Refused number place → shapeAt s at ≡ refuses number place
 read-stopped s at e d = sym e ∙ ap readSays d
 
--- fewer bytes are left behind a field
-pub less-read : (s : List ℕ) (at : ℕ) {r : Read} {f : Field} {next : ℕ} → readSays r ≡ shapeAt s at → r ≡ R.Field f next → length s - next < length s - at
+-- the bytes that are left: the measure of every loop over a sheet, and fewer behind a field
+abbrev pub left : List ℕ → ℕ → ℕ
+left s at = length s - at
+
+pub less-read : (s : List ℕ) (at : ℕ) {r : Read} {f : Field} {next : ℕ} → readSays r ≡ shapeAt s at → r ≡ R.Field f next → left s next < left s at
 less-read s at e d = let g = shape-grows s at (read-gave s at e d) in omega arith
 
 -- at the sheet's end and past it nothing stands

@@ -2,6 +2,7 @@
 // pass over a sheet's bytes.
 ghost use mathlib.Core.Path.{_≡_};
 ghost use Prim.Native.Nat.{_<_};
+ghost use Rattle.sheet.specs.Fields.{oneIf};
 ghost use Rattle.sheet.specs.Judgement.{atEnd, judgeSheet, judgedSays};
 use admit::Admitted;
 use admit::Progress;
@@ -22,6 +23,13 @@ pub struct Day {
 pub enum Judged {
     Accepted(Day),
     Refused(u8, usize),
+}
+
+// 1 where a test holds: what a count adds for a field.
+pub fn one_if(test: bool) -> u64
+    ensures { λ r. ⌜ r ≡ oneIf test ⌝ }
+{
+    if test { 1 } else { 0 }
 }
 
 // Behind a right end no byte may follow.

@@ -131,7 +131,10 @@ fn main() {
     let n = io::read_full(STDIN_FILENO, &mut text);
     take_lines(&text[..n]);
     let long = zeros();
-    io::write_all(STDOUT_FILENO, b"# B17 as many zero bytes as a sheet may have, and one more\n");
+    io::write_all(
+        STDOUT_FILENO,
+        b"# B17 as many zero bytes as a sheet may have, and one more\n",
+    );
     judge_first(&long, 1_048_576);
     judge_first(&long, 1_048_577);
 }

@@ -1,8 +1,6 @@
 -- `sheet::judge_sheet` meets its contract: each need is a law of the loop, whose premises `search` finds. Assumes nothing.
-use Prim.Native.Nat.{_-_}
-use lib.ListN.{length}
 use borrow.Author.Needs.{needs}
-use Rattle.sheet.specs.Walk.{less-read}
+use Rattle.sheet.specs.Walk.{left, less-read}
 use Rattle.sheet.proofs.Track.{OnTrack, too-long, at-start, at-refusal, at-room, at-stop, at-last, at-next}
 use Rattle.sheet.proofs.judge_sheet.Statement.{statement}
 use Rattle.sheet.proofs.judge_sheet.Tie as tie
@@ -13,7 +11,7 @@ abbrev Inv-loop : tie.InvT-loop
 Inv-loop sheet at₀ progress₀ at progress = OnTrack sheet at progress
 
 abbrev μ-loop : tie.MeasureT-loop
-μ-loop sheet at₀ progress₀ at progress = length sheet - at
+μ-loop sheet at₀ progress₀ at progress = left sheet at
 
 returns : tie.Need-returns Inv-loop μ-loop
 returns c = search judging
