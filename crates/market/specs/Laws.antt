@@ -1,0 +1,66 @@
+-- The definitions of the tables at the places where the code stands: a row that is there, a row that isn't, and the two tests.
+-- Assumes nothing.
+use Prim.Native.Nat.{ℕ, zero, suc, _+_, _-_, _/_, _%_, _^_, _≤_, _<_}
+use mathlib.Core.Path.{_≡_, refl, sym, ap, _∙_}
+use mathlib.Core.Bool.{false}
+use mathlib.Core.List.{[]}
+use native.Mathlib.Nat.{div-eq-of-lt, pow-le-pow-right, lt-of-lt-of-le}
+use native.Mathlib.Decide.{decLt}
+use native.Mathlib.Omega.{arith}
+use borrow.Author.Tests.{le-leb, lt-leb, lt-ltb, le-ltb, eq-eqb, ne-eqb}
+use lib.Dec.{ltb, eqb}
+use lib.ListN.{getD, List·getD-eq-default}
+use Rattle.market.specs.declared.Metal.{Metal}
+use Rattle.market.specs.declared.Contract.{Contract}
+use Rattle.market.specs.declared.Leg.the-variants.{Outright}
+use Rattle.market.specs.Market.{metals, metalBy, metalOf, contracts, contractBy, contractOf, instruments, rowLeg, legOf, stepOf, windowLength, window-length, inWindow, marked}
+
+-- a metal's row as the code counts, and a metal with no row
+pub metal-row : (m : ℕ) → 0 < m → metalBy (getD metals (m - 1) []) ≡ metalOf m
+unfolding metalOf
+metal-row zero h = absurd (omega arith)
+metal-row (suc m) h = let e : suc m - 1 ≡ m = omega arith in ap (λ (k : ℕ). metalBy (getD metals k [])) e
+
+pub metal-none : (m : ℕ) → 5 < m → metalBy [] ≡ metalOf m
+metal-none m h = let e : 5 ≤ m - 1 = omega arith in sym (ap metalBy (List·getD-eq-default metals [] e)) ∙ metal-row m (omega arith)
+
+pub contract-none : (c : ℕ) → 6 ≤ c → contractBy [] ≡ contractOf c
+unfolding contractOf
+contract-none c h = sym (ap contractBy (List·getD-eq-default contracts [] h))
+
+pub leg-none : (i : ℕ) → 12 ≤ i → Outright ≡ legOf i
+unfolding legOf
+leg-none i h = sym (ap rowLeg (List·getD-eq-default instruments [] h))
+
+-- a contract's step: 0 in its row, and another
+pub step-by-metal : (metal c : ℕ) (row : Contract) (m : Metal) → row ≡ contractOf c → m ≡ metalOf metal → row .step ≡ 0 → m .step ≡ stepOf metal c
+unfolding stepOf
+step-by-metal metal c row m e f h = simp (← e, ← f, eq-eqb (row .step) 0 h)
+
+pub step-own : (metal c : ℕ) (row : Contract) → row ≡ contractOf c → (row .step ≡ 0 → ⊥) → row .step ≡ stepOf metal c
+unfolding stepOf
+step-own metal c row e h = simp (← e, ne-eqb (row .step) 0 h)
+
+-- a time before the start, and one from it on
+pub window-before : (start time : ℕ) → time < start → inWindow start time ≡ false
+unfolding inWindow
+window-before start time h = simp (lt-leb start time h)
+
+pub window-from : (start time : ℕ) → start ≤ time → inWindow start time ≡ ltb (time - start) 300000
+unfolding inWindow
+window-from start time h = simp (le-leb start time h) (by-test (decLt (time - start) 300000))
+  where
+    by-test : Dec (time - start < 300000) → ltb time (start + windowLength) ≡ ltb (time - start) 300000
+    by-test (yes l) = lt-ltb time (start + windowLength) (omega (arith, window-length)) ∙ sym (lt-ltb (time - start) 300000 l)
+    by-test (no l) = le-ltb time (start + windowLength) (omega (arith, window-length)) ∙ sym (le-ltb (time - start) 300000 (omega arith))
+
+-- the mark of a spread as the code counts; no u16 has a bit above 15
+pub marked-at : (marks i : ℕ) → (i ≡ 0 → ⊥) → marked marks i ≡ eqb (marks / 2 ^ (i - 1) % 2) 1
+unfolding marked
+marked-at marks zero h = absurd (h refl)
+marked-at marks (suc i) h = let e : suc i - 1 ≡ i = omega arith in ap (λ (k : ℕ). eqb (marks / 2 ^ k % 2) 1) (sym e)
+
+pub marked-above : (marks i : ℕ) → marks < 65536 → 16 < i → marked marks i ≡ false
+marked-above marks i m h =
+    let small : marks < 2 ^ (i - 1) = lt-of-lt-of-le m (pow-le-pow-right {n = 2} (omega arith) {i = 16} {j = i - 1} (omega arith)) in
+    marked-at marks i (λ e. omega arith) ∙ simp (div-eq-of-lt small)

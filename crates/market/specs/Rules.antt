@@ -1,0 +1,112 @@
+-- What holds of every row of the tables: the contracts' instruments are those that price them, from contracts priced before.
+--     pricedOf     the contract that an instrument prices: the later of its two
+--     agree        the two tables agree: an instrument is among a contract's VWAP instruments exactly where it prices that contract
+--     ruled        of each contract: its TWAP instrument is among its VWAP instruments, and their other legs are priced earlier
+--     p11, p12     document 01's examples of a window's last millisecond and of the one behind it
+-- Assumes nothing.
+use Prim.Native.Nat.{ℕ, _≤_, _<_, max}
+use mathlib.Core.Path.{_≡_, refl, sym, subst, _∙_}
+use mathlib.Core.Bool.{Bool, true, false, _&&_, not}
+use mathlib.Core.List.{List, []}
+use native.Mathlib.Nat.{le-trans}
+use borrow.Author.Tests.{le-leb, lt-ltb, eqb-true}
+use lib.Dec.{T, leb, ltb, eqb, leb→le, ltb→lt, eqb→eq}
+use lib.ListN.{getD}
+use Rattle.market.specs.declared.Leg.{Leg}
+use Rattle.market.specs.declared.Leg.the-variants.{Outright, Over, Under}
+use Rattle.market.specs.declared.Contract.{Contract}
+use Rattle.market.specs.Market.{metalOf, contractOf, instruments, legOf, startOf, window-length, inWindow}
+use Rattle.market.specs.Table.{upTo, below}
+
+-- ---- P11 and P12: a Nickel spread trade at 58,499,999 counts, at 58,500,000 it doesn't
+
+pub p11 : inWindow (startOf 1 1) 58499999 ≡ true
+unfolding inWindow startOf metalOf
+p11 = rw window-length
+
+pub p12 : inWindow (startOf 1 1) 58500000 ≡ false
+unfolding inWindow startOf metalOf
+p12 = rw window-length
+
+-- ---- the two tables agree
+
+abbrev pricedBy : List ℕ → ℕ
+pricedBy row = max (getD row 0 0) (getD row 1 0)
+
+-- the contract that an instrument prices: the later of A and B
+unfoldable pub pricedOf : ℕ → ℕ
+pricedOf i = pricedBy (getD instruments i [])
+
+-- the instrument is one of the contract's VWAP instruments
+abbrev pub uses : Contract → ℕ → Bool
+uses r i = leb (r .first) i && ltb i (r .past)
+
+abbrev same : Bool → Bool → Bool
+same true b = b
+same false b = not b
+
+same-is : (a b : Bool) → T (same a b) → a ≡ b
+same-is true true t = refl
+same-is true false t = absurd t
+same-is false true t = absurd t
+same-is false false t = refl
+
+-- at contract c and instrument i
+abbrev agreeing : ℕ → ℕ → Bool
+agreeing c i = same (uses (contractOf c) i) (eqb (pricedOf i) c)
+
+pub agree : (c i : ℕ) → c < 6 → i < 12 → uses (contractOf c) i ≡ eqb (pricedOf i) c
+unfolding contractOf pricedOf
+agree c i h k =
+    same-is (uses (contractOf c) i) (eqb (pricedOf i) c)
+    (below (agreeing c) 12 i (below (λ c. upTo (agreeing c) 12) 6 c tt h) k)
+
+-- ---- what a contract's row says
+
+-- what instrument i needs to be known before contract c is priced: the other leg is priced earlier; only instrument 0 has none
+abbrev pub Earlier : ℕ → ℕ → Leg → Type 0
+Earlier c i Outright = i ≡ 0
+Earlier c i (Over o) = o < c
+Earlier c i (Under o) = o < c
+
+abbrev earlier : ℕ → ℕ → Leg → Bool
+earlier c i Outright = eqb i 0
+earlier c i (Over o) = ltb o c
+earlier c i (Under o) = ltb o c
+
+earlier-is : (c i : ℕ) (leg : Leg) → T (earlier c i leg) → Earlier c i leg
+earlier-is c i Outright t = eqb→eq i 0 t
+earlier-is c i (Over o) t = ltb→lt o c t
+earlier-is c i (Under o) t = ltb→lt o c t
+
+-- an instrument's other leg is priced before the contract that it prices
+pub leg-earlier : (i : ℕ) → i < 12 → Earlier (pricedOf i) i (legOf i)
+unfolding pricedOf legOf
+leg-earlier i h = earlier-is (pricedOf i) i (legOf i) (below (λ i. earlier (pricedOf i) i (legOf i)) 12 i tt h)
+
+pub record Ruled (c : ℕ) (r : Contract) : Type 0 where
+  pub order : r .first ≤ r .twap
+  pub among : r .twap < r .past
+  pub inside : r .past ≤ 12
+  pub step : r .step ≤ 1
+  pub legs : (i : ℕ) → r .first ≤ i → i < r .past → Earlier c i (legOf i)
+
+-- the test f passes at the row of each contract
+by-row : (f : Contract → Bool) → T (upTo (λ c. f (contractOf c)) 6) → (c : ℕ) → c < 6 → T (f (contractOf c))
+by-row f t c h = below (λ c. f (contractOf c)) 6 c t h
+
+pub ruled : (c : ℕ) → c < 6 → Ruled c (contractOf c)
+unfolding contractOf
+ruled c h = record {
+  order = leb→le _ _ (by-row (λ r. leb (r .first) (r .twap)) tt c h);
+  among = ltb→lt _ _ (by-row (λ r. ltb (r .twap) (r .past)) tt c h);
+  inside = inside;
+  step = leb→le _ _ (by-row (λ r. leb (r .step) 1) tt c h);
+  legs = λ i l k. subst (λ (p : ℕ). Earlier p i (legOf i)) (priced i l k) (leg-earlier i (le-trans k inside));
+}
+  where
+    inside : contractOf c .past ≤ 12
+    inside = leb→le _ _ (by-row (λ r. leb (r .past) 12) tt c h)
+
+    priced : (i : ℕ) → contractOf c .first ≤ i → i < contractOf c .past → pricedOf i ≡ c
+    priced i l k = eqb-true (pricedOf i) c (sym (agree c i h (le-trans k inside)) ∙ simp (le-leb _ _ l, lt-ltb _ _ k))

@@ -1,0 +1,185 @@
+// Document 01's constant tables: the windows and rounding steps by metal, the contracts in pricing order, the two sides of each
+// instrument, and the marks. Hosts don't call it.
+ghost use mathlib.Core.Path.{_≡_};
+ghost use Rattle.market.specs.Market.{metalOf, contractOf, legOf, startOf, stepOf, inWindow, marked};
+
+// A metal's spread start and anchor start, in milliseconds of the day, and its 3M step, in cents.
+pub struct Metal {
+    pub spread: u32,
+    pub anchor: u32,
+    pub step: u32,
+}
+
+// VWAP from the instruments first to past - 1, TWAP from one of them; a step of 0 is the metal's.
+pub struct Contract {
+    pub first: u8,
+    pub past: u8,
+    pub twap: u8,
+    pub step: u8,
+}
+
+// What the price of an instrument says of the contract that it prices: it is its price; or the other leg's close plus it, or less it.
+pub enum Leg {
+    Outright,
+    Over(usize),
+    Under(usize),
+}
+
+// How many milliseconds every window holds.
+pub const WINDOW: u32 = 300_000;
+
+// Nickel, Aluminium, Zinc, Copper, Lead: spread start, anchor start, 3M step.
+const METALS: [[u32; 3]; 5] = [
+    [58_200_000, 58_500_000, 100],
+    [58_800_000, 59_100_000, 50],
+    [59_400_000, 59_700_000, 50],
+    [60_000_000, 60_300_000, 50],
+    [60_600_000, 60_900_000, 50],
+];
+
+// 3M, M3, M2, M4, M1, Cash: the first VWAP instrument, the one past the last, the TWAP instrument, the step.
+const CONTRACTS: [[u8; 4]; 6] = [
+    [0, 1, 0, 0],
+    [1, 2, 1, 1],
+    [2, 4, 3, 1],
+    [4, 7, 5, 1],
+    [7, 11, 7, 1],
+    [11, 12, 11, 1],
+];
+
+const THREE_M: usize = 0;
+
+const M3: usize = 1;
+
+const M2: usize = 2;
+
+const M4: usize = 3;
+
+const M1: usize = 4;
+
+const CASH: usize = 5;
+
+// The instruments, 0 to 11: A and B of each A-B; the outright has 3M for both.
+const INSTRUMENTS: [[usize; 2]; 12] = [
+    [THREE_M, THREE_M],
+    [M3, THREE_M],
+    [M2, THREE_M],
+    [M2, M3],
+    [M2, M4],
+    [M3, M4],
+    [THREE_M, M4],
+    [M1, M2],
+    [M1, M3],
+    [M1, THREE_M],
+    [M1, M4],
+    [CASH, M1],
+];
+
+// The row of a metal, 1 to 5; of any other metal a row of zeros.
+pub fn metal_of(metal: u8) -> Metal
+    ensures { λ r. ⌜ r ≡ metalOf metal ⌝ }
+{
+    if 0 < metal {
+        if metal <= 5 {
+            let row = METALS[metal as usize - 1];
+            return Metal {
+                spread: row[0],
+                anchor: row[1],
+                step: row[2],
+            };
+        }
+    }
+    Metal {
+        spread: 0,
+        anchor: 0,
+        step: 0,
+    }
+}
+
+// The row of a contract, 0 to 5 in pricing order; of any other contract a row of zeros.
+pub fn contract_of(contract: usize) -> Contract
+    ensures { λ r. ⌜ r ≡ contractOf contract ⌝ }
+{
+    if contract < 6 {
+        let row = CONTRACTS[contract];
+        return Contract {
+            first: row[0],
+            past: row[1],
+            twap: row[2],
+            step: row[3],
+        };
+    }
+    Contract {
+        first: 0,
+        past: 0,
+        twap: 0,
+        step: 0,
+    }
+}
+
+// The leg of an instrument, 0 to 11; any other instrument is as the outright.
+pub fn leg_of(instrument: u8) -> Leg
+    ensures { λ r. ⌜ r ≡ legOf instrument ⌝ }
+{
+    let i = instrument as usize;
+    if 12 <= i {
+        return Leg::Outright;
+    }
+    let row = INSTRUMENTS[i];
+    let a = row[0];
+    let b = row[1];
+    if b < a {
+        return Leg::Over(b);
+    }
+    if a < b {
+        return Leg::Under(a);
+    }
+    Leg::Outright
+}
+
+// The start of an instrument's window: the anchor window for instrument 0, the spread window for all others; 0 where there is no such metal.
+pub fn start_of(metal: u8, instrument: u8) -> u32
+    ensures { λ r. ⌜ r ≡ startOf metal instrument ⌝ }
+{
+    let row = metal_of(metal);
+    if instrument == 0 {
+        row.anchor
+    } else {
+        row.spread
+    }
+}
+
+// The step that a contract rounds to: 3M's by the metal, every other contract's 1 cent; a contract above 5 has the metal's.
+pub fn step_of(metal: u8, contract: usize) -> u32
+    ensures { λ r. ⌜ r ≡ stepOf metal contract ⌝ }
+{
+    let row = contract_of(contract);
+    let step = row.step;
+    if step == 0 {
+        let by_metal = metal_of(metal);
+        return by_metal.step;
+    }
+    step as u32
+}
+
+// Whether a time lies in the window of a start: the start is in, start + 300,000 is out.
+pub fn in_window(start: u32, time: u32) -> bool
+    ensures { λ r. ⌜ r ≡ inWindow start time ⌝ }
+{
+    if time < start {
+        return false;
+    }
+    time - start < WINDOW
+}
+
+// Whether a spread's mark is set: bit i - 1 for spread i; instrument 0 has none, and neither has one above 16.
+pub fn is_marked(marks: u16, instrument: u8) -> bool
+    ensures { λ r. ⌜ r ≡ marked marks instrument ⌝ }
+{
+    if 0 < instrument {
+        if instrument <= 16 {
+            return (marks >> (instrument - 1)) % 2 == 1;
+        }
+    }
+    false
+}
