@@ -1,0 +1,162 @@
+-- A change of the fields of one instrument, and the indicator's state that goes along with it.
+--     changed        the change at the fields of instrument i, and nowhere else
+--     repriced       a change that keeps a field's time and instrument, and moves its prices
+--     after-changed  a change of the state that goes along field by field goes along over the whole list
+--     others-stay    the indicators of other instruments stay
+-- Assumes nothing.
+use Prim.Native.Nat.{ℕ}
+use mathlib.Core.Path.{_≡_, refl, sym, ap, ap₂, _∙_}
+use mathlib.Core.Bool.{Bool, true, false, cond}
+use mathlib.Core.List.{List, [], _∷_, map}
+use borrow.Author.Tests.{eqb-true, ne-eqb}
+use lib.Dec.{leb, eqb}
+use Rattle.field.specs.declared.Price.{Price}
+use Rattle.field.specs.declared.Field.{Field}
+use Rattle.field.specs.declared.Field.the-variants.{Header, PreviousClose, Trade, Quote, End}
+use Rattle.indicator.specs.declared.Side.{Side}
+use Rattle.indicator.specs.declared.Side.the-variants.{Absent, At}
+use Rattle.indicator.specs.declared.Indicator.{Indicator}
+use Rattle.indicator.specs.Indicator.{present, empty, elseAt, afterTrade, afterClose, afterQuote, bookFrom, taken, stamp, afterFrom, after}
+
+-- the field is of instrument i
+abbrev pub concerns : ℕ → Field → Bool
+concerns i (Header metal marks) = false
+concerns i (PreviousClose instrument price) = eqb instrument i
+concerns i (Trade time instrument price lots) = eqb instrument i
+concerns i (Quote time instrument sides bid offer) = eqb instrument i
+concerns i (End count) = false
+
+abbrev pub changed : ℕ → (Field → Field) → Field → Field
+changed i g f = cond (concerns i f) (g f) f
+
+-- the prices of closes and trades moved by m, and a quote's sides and prices by what they become
+pub record Sides : Type 0 where
+  pub sides : ℕ
+  pub bid : Price
+  pub offer : Price
+
+abbrev pub repriced : (Price → Price) → (ℕ → Price → Price → Sides) → Field → Field
+repriced m q (Header metal marks) = Header metal marks
+repriced m q (PreviousClose instrument price) = PreviousClose instrument (m price)
+repriced m q (Trade time instrument price lots) = Trade time instrument (m price) lots
+repriced m q (Quote time instrument sides bid offer) = Quote time instrument (q sides bid offer .sides) (q sides bid offer .bid) (q sides bid offer .offer)
+repriced m q (End count) = End count
+
+-- a side moved by m
+abbrev pub onSide : (Price → Price) → Side → Side
+onSide m Absent = Absent
+onSide m (At p) = At (m p)
+
+pub on-present : (m : Price → Price) (r : Side) → present (onSide m r) ≡ present r
+on-present m Absent = refl
+on-present m (At p) = refl
+
+pub on-else : (m : Price → Price) (r : Side) (price : Price) → elseAt (onSide m r) (m price) ≡ onSide m (elseAt r price)
+on-else m Absent price = refl
+on-else m (At p) price = refl
+
+-- a function of a choice is the choice of its values
+pub cond-map : {A B : Type 0} (g : A → B) (t : Bool) (x y : A) → cond t (g x) (g y) ≡ g (cond t x y)
+cond-map g true x y = refl
+cond-map g false x y = refl
+
+-- ---- one field
+
+-- a field of another instrument does nothing
+other : (i start : ℕ) (s : Indicator) (f : Field) → concerns i f ≡ false → taken i start s f ≡ s
+unfolding taken
+other i start s (Header metal marks) e = refl
+other i start s (PreviousClose instrument price) e = simp e
+other i start s (Trade time instrument price lots) e = simp e
+other i start s (Quote time instrument sides bid offer) e = simp e
+other i start s (End count) e = refl
+
+-- a change that keeps a field's time and instrument
+pub record Keeps (g : Field → Field) : Type 0 where
+  pub time : (f : Field) → stamp (g f) ≡ stamp f
+  pub instrument : (i : ℕ) (f : Field) → concerns i (g f) ≡ concerns i f
+
+pub repriced-keeps : (m : Price → Price) (q : ℕ → Price → Price → Sides) → Keeps (repriced m q)
+repriced-keeps m q = record { time = at-time; instrument = of-instrument }
+  where
+    at-time : (f : Field) → stamp (repriced m q f) ≡ stamp f
+    at-time (Header metal marks) = refl
+    at-time (PreviousClose instrument price) = refl
+    at-time (Trade time instrument price lots) = refl
+    at-time (Quote time instrument sides bid offer) = refl
+    at-time (End count) = refl
+
+    of-instrument : (i : ℕ) (f : Field) → concerns i (repriced m q f) ≡ concerns i f
+    of-instrument i (Header metal marks) = refl
+    of-instrument i (PreviousClose instrument price) = refl
+    of-instrument i (Trade time instrument price lots) = refl
+    of-instrument i (Quote time instrument sides bid offer) = refl
+    of-instrument i (End count) = refl
+
+-- the state goes along with the change of a field
+abbrev pub Along : ℕ → ℕ → (Field → Field) → (Indicator → Indicator) → Type 0
+Along i start g G = (s : Indicator) (f : Field) → taken i start (G s) (g f) ≡ G (taken i start s f)
+
+-- it goes along with a change of prices where it goes along with closes, trades and quotes
+module _ (i start : ℕ) (m : Price → Price) (q : ℕ → Price → Price → Sides) (G : Indicator → Indicator)
+    (close : (s : Indicator) (p : Price) → afterClose (G s) (m p) ≡ G (afterClose s p))
+    (trade : (s : Indicator) (p : Price) → afterTrade (G s) (m p) ≡ G (afterTrade s p))
+    (quote : (s : Indicator) (n : ℕ) (b o : Price) → afterQuote (G s) (q n b o .sides) (q n b o .bid) (q n b o .offer) ≡ G (afterQuote s n b o)) where
+  pub repriced-along : Along i start (repriced m q) G
+  unfolding taken
+  repriced-along s (Header metal marks) = refl
+  repriced-along s (PreviousClose instrument price) = rw (close s price) (cond-map G (eqb instrument i) (afterClose s price) s)
+  repriced-along s (Trade time instrument price lots) = rw (trade s price) (cond-map G (eqb instrument i) (afterTrade s price) s)
+  repriced-along s (Quote time instrument sides bid offer) =
+      let new = afterQuote s sides bid offer in
+      rw (quote s sides bid offer, cond-map G (leb (bookFrom start) time) new s) (cond-map G (eqb instrument i) (cond (leb (bookFrom start) time) new s) s)
+  repriced-along s (End count) = refl
+
+-- ---- a list of fields
+
+along-map : (i start t : ℕ) (g : Field → Field) (G : Indicator → Indicator) → ((f : Field) → stamp (g f) ≡ stamp f) → Along i start g G
+    → (s : Indicator) (fs : List Field) → afterFrom i start t (G s) (map g fs) ≡ G (afterFrom i start t s fs)
+unfolding afterFrom
+along-map i start t g G time step s [] = refl
+along-map i start t g G time step s (f ∷ fs) =
+    ap (λ (x : Indicator). afterFrom i start t x (map g fs))
+    (ap₂ (λ (n : ℕ) (x : Indicator). cond (leb n t) x (G s)) (time f) (step s f) ∙ cond-map G (leb (stamp f) t) (taken i start s f) s)
+    ∙ along-map i start t g G time step (cond (leb (stamp f) t) (taken i start s f) s) fs
+
+changed-time : (i : ℕ) (g : Field → Field) → Keeps g → (f : Field) → stamp (changed i g f) ≡ stamp f
+changed-time i g keeps f = by-test (concerns i f)
+  where
+    by-test : (b : Bool) → stamp (cond b (g f) f) ≡ stamp f
+    by-test true = keeps .time f
+    by-test false = refl
+
+pub after-changed : (i start : ℕ) (g : Field → Field) (G : Indicator → Indicator) → Keeps g → Along i start g G → G empty ≡ empty
+    → (t : ℕ) (fs : List Field) → after i start t (map (changed i g) fs) ≡ G (after i start t fs)
+after-changed i start g G keeps along none t fs =
+    ap (λ (s : Indicator). afterFrom i start t s (map (changed i g) fs)) (sym none)
+    ∙ along-map i start t (changed i g) G (changed-time i g keeps) (λ s f. by-test s f (concerns i f) refl) empty fs
+  where
+    by-test : (s : Indicator) (f : Field) (b : Bool) → concerns i f ≡ b → taken i start (G s) (cond b (g f) f) ≡ G (taken i start s f)
+    by-test s f true e = along s f
+    by-test s f false e = other i start (G s) f e ∙ ap G (sym (other i start s f e))
+
+-- ---- another instrument
+
+one-of : (i j instrument : ℕ) → (j ≡ i → ⊥) → eqb instrument i ≡ true → eqb instrument j ≡ false
+one-of i j instrument differs e = ne-eqb instrument j (λ h. differs (sym h ∙ eqb-true instrument i e))
+
+not-both : (i j : ℕ) (f : Field) → (j ≡ i → ⊥) → concerns i f ≡ true → concerns j f ≡ false
+not-both i j (Header metal marks) d e = refl
+not-both i j (PreviousClose instrument price) d e = one-of i j instrument d e
+not-both i j (Trade time instrument price lots) d e = one-of i j instrument d e
+not-both i j (Quote time instrument sides bid offer) d e = one-of i j instrument d e
+not-both i j (End count) d e = refl
+
+pub others-stay : (i j start : ℕ) (g : Field → Field) → Keeps g → (j ≡ i → ⊥) → (t : ℕ) (fs : List Field) → after j start t (map (changed i g) fs) ≡ after j start t fs
+others-stay i j start g keeps differs t fs = along-map j start t (changed i g) (λ s. s) (changed-time i g keeps) (λ s f. by-test s f (concerns i f) refl) empty fs
+  where
+    by-test : (s : Indicator) (f : Field) (b : Bool) → concerns i f ≡ b → taken j start s (cond b (g f) f) ≡ taken j start s f
+    by-test s f true e =
+        let no = not-both i j f differs e in
+        other j start s (g f) (keeps .instrument j f ∙ no) ∙ sym (other j start s f no)
+    by-test s f false e = refl

@@ -1,0 +1,124 @@
+-- Document 01, "Pricing a contract": the indicator of one instrument, a small state handed back changed by each record, and its sum over
+-- the 300,000 milliseconds of a window.
+use Prim.Native.Nat.{ℕ, zero, suc, _+_}
+use mathlib.Core.Bool.{Bool, true, false, cond}
+use mathlib.Core.List.{List, [], _∷_}
+use lib.Dec.{leb, eqb}
+use lib.IntN.{ℤ, pos, _+ℤ_}
+use lib.Signed.{ltZ}
+use Rattle.field.specs.declared.Price.{Price}
+use Rattle.field.specs.declared.Field.{Field}
+use Rattle.field.specs.declared.Field.the-variants.{Header, PreviousClose, Trade, Quote, End}
+use Rattle.field.specs.Judging.{hasBid, hasOffer}
+use Rattle.market.specs.Market.{windowLength}
+use Rattle.indicator.specs.declared.Side.{Side}
+use Rattle.indicator.specs.declared.Side.the-variants.{Absent, At}
+use Rattle.indicator.specs.declared.Indicator.{Indicator}
+
+-- ---- the state
+
+-- a price that is there or not; whether it is; its cents, 0 where it is not
+abbrev pub sideOf : Bool → Price → Side
+sideOf here price = cond here (At price) Absent
+
+abbrev pub present : Side → Bool
+present Absent = false
+present (At p) = true
+
+abbrev pub centsOf : Side → ℤ
+centsOf Absent = pos 0
+centsOf (At p) = p .cents
+
+-- no reference, and an empty book
+abbrev pub empty : Indicator
+empty = record { reference = Absent; bid = Absent; offer = Absent }
+
+abbrev pub bookEmptied : Indicator → Indicator
+bookEmptied s = record { reference = s .reference; bid = Absent; offer = Absent }
+
+-- "the reference is the instrument's last trade of the day so far"
+abbrev pub afterTrade : Indicator → Price → Indicator
+afterTrade s price = record { reference = At price; bid = s .bid; offer = s .offer }
+
+-- "else its previous close"
+abbrev pub elseAt : Side → Price → Side
+elseAt Absent price = At price
+elseAt (At p) price = At p
+
+abbrev pub afterClose : Indicator → Price → Indicator
+afterClose s price = record { reference = elseAt (s .reference) price; bid = s .bid; offer = s .offer }
+
+-- "A quote record replaces both sides."
+abbrev pub afterQuote : Indicator → ℕ → Price → Price → Indicator
+afterQuote s sides bid offer = record { reference = s .reference; bid = sideOf (hasBid sides) bid; offer = sideOf (hasOffer sides) offer }
+
+abbrev pub below : Price → Price → Bool
+below price other = ltZ (price .cents) (other .cents)
+
+-- "an offer below it gives the offer; otherwise the reference"
+abbrev pub belowOffer : Price → Side → Price
+belowOffer reference Absent = reference
+belowOffer reference (At o) = cond (below o reference) o reference
+
+-- "A bid above it gives the bid"
+abbrev pub insideBook : Price → Side → Side → Price
+insideBook reference Absent offer = belowOffer reference offer
+insideBook reference (At b) offer = cond (below reference b) b (belowOffer reference offer)
+
+-- the indicator; there is none where there is no reference
+abbrev pub valueBy : Side → Side → Side → Side
+valueBy Absent bid offer = Absent
+valueBy (At p) bid offer = At (insideBook p bid offer)
+
+abbrev pub valueOf : Indicator → Side
+valueOf s = valueBy (s .reference) (s .bid) (s .offer)
+
+-- ---- the fields of a sheet
+
+-- "The book is empty at the window's start, and only quote records stamped inside the window fill it": those from its start on
+unfoldable pub bookFrom : ℕ → ℕ
+bookFrom start = start
+
+-- what a field does to the state of instrument i, whose window starts at start
+unfoldable pub taken : ℕ → ℕ → Indicator → Field → Indicator
+taken i start s (Header metal marks) = s
+taken i start s (PreviousClose instrument price) = cond (eqb instrument i) (afterClose s price) s
+taken i start s (Trade time instrument price lots) = cond (eqb instrument i) (afterTrade s price) s
+taken i start s (Quote time instrument sides bid offer) = cond (eqb instrument i) (cond (leb (bookFrom start) time) (afterQuote s sides bid offer) s) s
+taken i start s (End count) = s
+
+-- the millisecond from which a field counts: a record's time; any other field counts all day
+abbrev pub stamp : Field → ℕ
+stamp (Header metal marks) = 0
+stamp (PreviousClose instrument price) = 0
+stamp (Trade time instrument price lots) = time
+stamp (Quote time instrument sides bid offer) = time
+stamp (End count) = 0
+
+-- the state s after every field of the list that counts at the millisecond t
+unfoldable pub afterFrom : ℕ → ℕ → ℕ → Indicator → List Field → Indicator
+afterFrom i start t s [] = s
+afterFrom i start t s (f ∷ fs) = afterFrom i start t (cond (leb (stamp f) t) (taken i start s f) s) fs
+
+abbrev pub after : ℕ → ℕ → ℕ → List Field → Indicator
+after i start t fs = afterFrom i start t empty fs
+
+-- "Indicator at a millisecond, after every record of that millisecond"
+abbrev pub indicatorAt : ℕ → ℕ → ℕ → List Field → Side
+indicatorAt i start t fs = valueOf (after i start t fs)
+
+abbrev pub centsAt : ℕ → ℕ → List Field → ℕ → ℤ
+centsAt i start fs t = centsOf (indicatorAt i start t fs)
+
+-- f t + f (t + 1) + .., n of them
+unfoldable pub sumFrom : (ℕ → ℤ) → ℕ → ℕ → ℤ
+sumFrom f t zero = pos 0
+sumFrom f t (suc n) = sumFrom f t n +ℤ f (t + n)
+
+-- "the sum of the indicator over the 300,000 milliseconds"
+abbrev pub twapSum : ℕ → ℕ → List Field → ℤ
+twapSum i start fs = sumFrom (centsAt i start fs) start windowLength
+
+-- there is a reference at the window's first millisecond; else 13
+abbrev pub hasReference : ℕ → ℕ → List Field → Bool
+hasReference i start fs = present (after i start start fs .reference)

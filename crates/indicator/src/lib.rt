@@ -1,0 +1,218 @@
+// The indicator of one instrument: a small state of reference, bid and offer, handed back changed by each record, and its value.
+// specs/ has its sum over a window and the laws of that sum. Hosts don't call it.
+ghost use mathlib.Core.Path.{_≡_};
+ghost use Rattle.indicator.specs.Indicator.{empty, sideOf, elseAt, present, below, belowOffer, insideBook, bookFrom, bookEmptied, afterClose, afterTrade, afterQuote, valueOf, taken};
+use field::Field;
+use field::Price;
+
+// A price that may be absent.
+pub enum Side {
+    Absent,
+    At(Price),
+}
+
+// The last trade of the day so far, else the previous close; and the book.
+pub struct Indicator {
+    pub reference: Side,
+    pub bid: Side,
+    pub offer: Side,
+}
+
+fn side_of(present: bool, price: Price) -> Side
+    ensures { λ r. ⌜ r ≡ sideOf present price ⌝ }
+{
+    if present {
+        Side::At(price)
+    } else {
+        Side::Absent
+    }
+}
+
+fn else_at(side: Side, price: Price) -> Side
+    ensures { λ r. ⌜ r ≡ elseAt side price ⌝ }
+{
+    match side {
+        Side::Absent => Side::At(price),
+        Side::At(p) => Side::At(p),
+    }
+}
+
+fn is_below(price: Price, other: Price) -> bool
+    ensures { λ r. ⌜ r ≡ below price other ⌝ }
+{
+    price.cents < other.cents
+}
+
+fn below_offer(reference: Price, offer: Side) -> Price
+    ensures { λ r. ⌜ r ≡ belowOffer reference offer ⌝ }
+{
+    match offer {
+        Side::Absent => reference,
+        Side::At(o) => {
+            if is_below(o, reference) {
+                return o;
+            }
+            reference
+        }
+    }
+}
+
+fn inside_book(reference: Price, bid: Side, offer: Side) -> Price
+    ensures { λ r. ⌜ r ≡ insideBook reference bid offer ⌝ }
+{
+    match bid {
+        Side::Absent => below_offer(reference, offer),
+        Side::At(b) => {
+            if is_below(reference, b) {
+                return b;
+            }
+            below_offer(reference, offer)
+        }
+    }
+}
+
+impl Indicator {
+    // No reference, and an empty book.
+    pub fn empty() -> Self
+        ensures { λ r. ⌜ r ≡ empty ⌝ }
+    {
+        Indicator {
+            reference: Side::Absent,
+            bid: Side::Absent,
+            offer: Side::Absent,
+        }
+    }
+
+    // A previous close: the reference where there was no trade.
+    pub fn close(mut self, price: Price) -> Self
+        ensures { λ r. ⌜ r ≡ afterClose self price ⌝ }
+    {
+        let before = self.reference;
+        let reference = else_at(before, price);
+        let bid = self.bid;
+        let offer = self.offer;
+        self = Indicator {
+            reference,
+            bid,
+            offer,
+        };
+        self
+    }
+
+    // A trade: the reference from now on.
+    pub fn trade(mut self, price: Price) -> Self
+        ensures { λ r. ⌜ r ≡ afterTrade self price ⌝ }
+    {
+        let bid = self.bid;
+        let offer = self.offer;
+        self = Indicator {
+            reference: Side::At(price),
+            bid,
+            offer,
+        };
+        self
+    }
+
+    // A quote record: both sides are replaced, an absent one too. In sides bit 0 says the bid, bit 1 the offer.
+    pub fn quote(mut self, sides: u8, bid: Price, offer: Price) -> Self
+        ensures { λ r. ⌜ r ≡ afterQuote self sides bid offer ⌝ }
+    {
+        let reference = self.reference;
+        let new_bid = side_of(sides % 2 == 1, bid);
+        let new_offer = side_of(sides / 2 % 2 == 1, offer);
+        self = Indicator {
+            reference,
+            bid: new_bid,
+            offer: new_offer,
+        };
+        self
+    }
+
+    // The book emptied.
+    pub fn clear(mut self) -> Self
+        ensures { λ r. ⌜ r ≡ bookEmptied self ⌝ }
+    {
+        let reference = self.reference;
+        self = Indicator {
+            reference,
+            bid: Side::Absent,
+            offer: Side::Absent,
+        };
+        self
+    }
+
+    // Whether there is a reference, and so a value.
+    pub fn has_reference(self) -> bool
+        ensures { λ r. ⌜ r ≡ present (self .reference) ⌝ }
+    {
+        let reference = self.reference;
+        match reference {
+            Side::Absent => false,
+            Side::At(_) => true,
+        }
+    }
+
+    // A bid above the reference, an offer below it, otherwise the reference; absent where there is no reference.
+    pub fn value(self) -> Side
+        ensures { λ r. ⌜ r ≡ valueOf self ⌝ }
+    {
+        let reference = self.reference;
+        let bid = self.bid;
+        let offer = self.offer;
+        match reference {
+            Side::Absent => Side::Absent,
+            Side::At(p) => Side::At(inside_book(p, bid, offer)),
+        }
+    }
+}
+
+// From which time on quote records fill the book of a window.
+pub fn book_from(start: u32) -> u32
+    ensures { λ r. ⌜ r ≡ bookFrom start ⌝ }
+{
+    start
+}
+
+// The state of an instrument whose window starts at start, after one field more.
+pub fn take_field(state: Indicator, instrument: u8, start: u32, field: Field) -> Indicator
+    ensures { λ r. ⌜ r ≡ taken instrument start state field ⌝ }
+{
+    match field {
+        Field::Header { metal: _, marks: _ } => state,
+        Field::PreviousClose {
+            instrument: of,
+            price,
+        } => {
+            if of == instrument {
+                return state.close(price);
+            }
+            state
+        }
+        Field::Trade {
+            time: _,
+            instrument: of,
+            price,
+            lots: _,
+        } => {
+            if of == instrument {
+                return state.trade(price);
+            }
+            state
+        }
+        Field::Quote {
+            time,
+            instrument: of,
+            sides,
+            bid,
+            offer,
+        } => {
+            if of == instrument {
+                if book_from(start) <= time {
+                    return state.quote(sides, bid, offer);
+                }
+            }
+            state
+        }
+        Field::End { count: _ } => state,
+    }
+}
