@@ -26,15 +26,17 @@ concerns i (Trade time instrument price lots) = eqb instrument i
 concerns i (Quote time instrument sides bid offer) = eqb instrument i
 concerns i (End count) = false
 
+-- the change g at the fields of instrument i, and nowhere else
 abbrev pub changed : ℕ → (Field → Field) → Field → Field
 changed i g f = cond (concerns i f) (g f) f
 
--- the prices of closes and trades moved by m, and a quote's sides and prices by what they become
+-- what a quote says of its sides
 pub record Sides : Type 0 where
   pub sides : ℕ
   pub bid : Price
   pub offer : Price
 
+-- the prices of closes and trades by m, and a quote's sides by q
 abbrev pub repriced : (Price → Price) → (ℕ → Price → Price → Sides) → Field → Field
 repriced m q (Header metal marks) = Header metal marks
 repriced m q (PreviousClose instrument price) = PreviousClose instrument (m price)

@@ -17,14 +17,16 @@ use Rattle.indicator.specs.declared.Indicator.{Indicator}
 
 -- ---- the state
 
--- a price that is there or not; whether it is; its cents, 0 where it is not
+-- a price that is there or not
 abbrev pub sideOf : Bool → Price → Side
 sideOf here price = cond here (At price) Absent
 
+-- whether it is there
 abbrev pub present : Side → Bool
 present Absent = false
 present (At p) = true
 
+-- its cents; a price that is not there counts 0, and 13 is given before it is counted
 abbrev pub centsOf : Side → ℤ
 centsOf Absent = pos 0
 centsOf (At p) = p .cents
@@ -33,6 +35,7 @@ centsOf (At p) = p .cents
 abbrev pub empty : Indicator
 empty = record { reference = Absent; bid = Absent; offer = Absent }
 
+-- the same reference, and an empty book
 abbrev pub bookEmptied : Indicator → Indicator
 bookEmptied s = record { reference = s .reference; bid = Absent; offer = Absent }
 
@@ -40,11 +43,12 @@ bookEmptied s = record { reference = s .reference; bid = Absent; offer = Absent 
 abbrev pub afterTrade : Indicator → Price → Indicator
 afterTrade s price = record { reference = At price; bid = s .bid; offer = s .offer }
 
--- "else its previous close"
+-- the side where it is there, else the price
 abbrev pub elseAt : Side → Price → Side
 elseAt Absent price = At price
 elseAt (At p) price = At p
 
+-- "else its previous close"
 abbrev pub afterClose : Indicator → Price → Indicator
 afterClose s price = record { reference = elseAt (s .reference) price; bid = s .bid; offer = s .offer }
 
@@ -52,6 +56,7 @@ afterClose s price = record { reference = elseAt (s .reference) price; bid = s .
 abbrev pub afterQuote : Indicator → ℕ → Price → Price → Indicator
 afterQuote s sides bid offer = record { reference = s .reference; bid = sideOf (hasBid sides) bid; offer = sideOf (hasOffer sides) offer }
 
+-- a price is below another
 abbrev pub below : Price → Price → Bool
 below price other = ltZ (price .cents) (other .cents)
 
@@ -65,11 +70,12 @@ abbrev pub insideBook : Price → Side → Side → Price
 insideBook reference Absent offer = belowOffer reference offer
 insideBook reference (At b) offer = cond (below reference b) b (belowOffer reference offer)
 
--- the indicator; there is none where there is no reference
+-- of reference, bid and offer; there is no indicator where there is no reference
 abbrev pub valueBy : Side → Side → Side → Side
 valueBy Absent bid offer = Absent
 valueBy (At p) bid offer = At (insideBook p bid offer)
 
+-- the indicator of a state
 abbrev pub valueOf : Indicator → Side
 valueOf s = valueBy (s .reference) (s .bid) (s .offer)
 
@@ -100,6 +106,7 @@ unfoldable pub afterFrom : ℕ → ℕ → ℕ → Indicator → List Field → 
 afterFrom i start t s [] = s
 afterFrom i start t s (f ∷ fs) = afterFrom i start t (cond (leb (stamp f) t) (taken i start s f) s) fs
 
+-- the same from the day's start on: no reference, and an empty book
 abbrev pub after : ℕ → ℕ → ℕ → List Field → Indicator
 after i start t fs = afterFrom i start t empty fs
 
@@ -107,6 +114,7 @@ after i start t fs = afterFrom i start t empty fs
 abbrev pub indicatorAt : ℕ → ℕ → ℕ → List Field → Side
 indicatorAt i start t fs = valueOf (after i start t fs)
 
+-- the same in cents, as a function of the millisecond
 abbrev pub centsAt : ℕ → ℕ → List Field → ℕ → ℤ
 centsAt i start fs t = centsOf (indicatorAt i start t fs)
 

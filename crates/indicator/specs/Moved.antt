@@ -26,23 +26,27 @@ use Rattle.indicator.specs.Sums.{sum-cong, sum-shift, sum-neg}
 use Rattle.indicator.specs.Laws.{reference-stays}
 use Rattle.indicator.specs.Changed.{changed, Sides, repriced, onSide, on-present, on-else, cond-map, repriced-keeps, repriced-along, after-changed}
 
--- every price moved by δ; an absent side has no price
+-- a price moved by δ
 abbrev pub shiftPrice : ℤ → Price → Price
 shiftPrice δ p = record { cents = p .cents +ℤ δ }
 
+-- a quote moved by δ: the sides that are present
 abbrev pub shiftSides : ℤ → ℕ → Price → Price → Sides
 shiftSides δ sides bid offer = record { sides = sides; bid = cond (hasBid sides) (shiftPrice δ bid) bid; offer = cond (hasOffer sides) (shiftPrice δ offer) offer }
 
+-- a field whose prices are moved by δ
 abbrev pub shiftField : ℤ → Field → Field
 shiftField δ = repriced (shiftPrice δ) (shiftSides δ)
 
--- every price negated, and the sides exchanged
+-- a price negated
 abbrev pub turnPrice : Price → Price
 turnPrice p = record { cents = negℤ (p .cents) }
 
+-- a quote turned round: prices negated, bid and offer exchanged, and their bits too
 abbrev pub turnSides : ℕ → Price → Price → Sides
 turnSides sides bid offer = record { sides = 2 * (sides % 2) + sides / 2 % 2; bid = turnPrice offer; offer = turnPrice bid }
 
+-- a field turned round
 abbrev pub turnField : Field → Field
 turnField = repriced turnPrice turnSides
 

@@ -1,5 +1,5 @@
-// The indicator of one instrument: a small state of reference, bid and offer, handed back changed by each record, and its value.
-// specs/ has its sum over a window and the laws of that sum. Hosts don't call it.
+// The indicator of one instrument, a small state handed back changed by each record, and its value. Hosts don't call it.
+// specs/ has the indicator at each millisecond of a window, its sum, and the laws of that sum.
 ghost use mathlib.Core.Path.{_≡_};
 ghost use Rattle.indicator.specs.Indicator.{empty, sideOf, elseAt, present, below, belowOffer, insideBook, bookFrom, bookEmptied, afterClose, afterTrade, afterQuote, valueOf, taken};
 use field::Field;
@@ -18,6 +18,7 @@ pub struct Indicator {
     pub offer: Side,
 }
 
+// A price that is there or not.
 fn side_of(present: bool, price: Price) -> Side
     ensures { λ r. ⌜ r ≡ sideOf present price ⌝ }
 {
@@ -28,6 +29,7 @@ fn side_of(present: bool, price: Price) -> Side
     }
 }
 
+// The side where it is there, else the price.
 fn else_at(side: Side, price: Price) -> Side
     ensures { λ r. ⌜ r ≡ elseAt side price ⌝ }
 {
@@ -37,12 +39,14 @@ fn else_at(side: Side, price: Price) -> Side
     }
 }
 
+// Whether a price is below another.
 fn is_below(price: Price, other: Price) -> bool
     ensures { λ r. ⌜ r ≡ below price other ⌝ }
 {
     price.cents < other.cents
 }
 
+// An offer below the reference, otherwise the reference.
 fn below_offer(reference: Price, offer: Side) -> Price
     ensures { λ r. ⌜ r ≡ belowOffer reference offer ⌝ }
 {
@@ -57,6 +61,7 @@ fn below_offer(reference: Price, offer: Side) -> Price
     }
 }
 
+// A bid above the reference, an offer below it, otherwise the reference.
 fn inside_book(reference: Price, bid: Side, offer: Side) -> Price
     ensures { λ r. ⌜ r ≡ insideBook reference bid offer ⌝ }
 {

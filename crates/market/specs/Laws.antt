@@ -2,13 +2,13 @@
 -- Assumes nothing.
 use Prim.Native.Nat.{ℕ, zero, suc, _+_, _-_, _/_, _%_, _^_, _≤_, _<_}
 use mathlib.Core.Path.{_≡_, refl, sym, ap, _∙_}
-use mathlib.Core.Bool.{false}
+use mathlib.Core.Bool.{Bool, true, false}
 use mathlib.Core.List.{[]}
 use native.Mathlib.Nat.{div-eq-of-lt, pow-le-pow-right, lt-of-lt-of-le}
 use native.Mathlib.Decide.{decLt}
 use native.Mathlib.Omega.{arith}
-use borrow.Author.Tests.{le-leb, lt-leb, lt-ltb, le-ltb, eq-eqb, ne-eqb}
-use lib.Dec.{ltb, eqb}
+use borrow.Author.Tests.{le-leb, lt-leb, lt-ltb, le-ltb, eq-eqb, ne-eqb, leb-true, ltb-true}
+use lib.Dec.{leb, ltb, eqb}
 use lib.ListN.{getD, List·getD-eq-default}
 use Rattle.market.specs.declared.Metal.{Metal}
 use Rattle.market.specs.declared.Contract.{Contract}
@@ -53,6 +53,23 @@ window-from start time h = simp (le-leb start time h) (by-test (decLt (time - st
     by-test : Dec (time - start < 300000) → ltb time (start + windowLength) ≡ ltb (time - start) 300000
     by-test (yes l) = lt-ltb time (start + windowLength) (omega (arith, window-length)) ∙ sym (lt-ltb (time - start) 300000 l)
     by-test (no l) = le-ltb time (start + windowLength) (omega (arith, window-length)) ∙ sym (le-ltb (time - start) 300000 (omega arith))
+
+-- what the test says
+pub window-told : (start time : ℕ) → inWindow start time ≡ true → (start ≤ time) × (time < start + windowLength)
+unfolding inWindow
+window-told start time e = by-first (leb start time) refl
+  where
+    by-first : (b : Bool) → leb start time ≡ b → (start ≤ time) × (time < start + windowLength)
+    by-first true h = (leb-true start time h, ltb-true time (start + windowLength) (simp h at e))
+    by-first false h = let z : _≡_ {A = ℕ} 0 1 = cc in absurd (omega arith)
+
+pub window-in : (start time : ℕ) → start ≤ time → time < start + windowLength → inWindow start time ≡ true
+unfolding inWindow
+window-in start time l h = simp (le-leb start time l, lt-ltb time (start + windowLength) h)
+
+pub window-behind : (start time : ℕ) → start + windowLength ≤ time → inWindow start time ≡ false
+unfolding inWindow
+window-behind start time h = simp (le-leb start time (omega arith), le-ltb time (start + windowLength) h)
 
 -- the mark of a spread as the code counts; no u16 has a bit above 15
 pub marked-at : (marks i : ℕ) → (i ≡ 0 → ⊥) → marked marks i ≡ eqb (marks / 2 ^ (i - 1) % 2) 1

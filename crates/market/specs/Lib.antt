@@ -1,4 +1,4 @@
 pub mod Market
 pub mod Table
-pub mod Rules
 pub mod Laws
+pub mod Rules

@@ -20,6 +20,7 @@ metals =
     (60600000 ∷ 60900000 ∷ 50 ∷ []) ∷  -- 5 Lead
     []
 
+-- the cells of a row by name; a cell that is not there is 0
 abbrev pub metalBy : List ℕ → Metal
 metalBy row = record { spread = getD row 0 0; anchor = getD row 1 0; step = getD row 2 0 }
 
@@ -39,6 +40,7 @@ contracts =
     (11 ∷ 12 ∷ 11 ∷ 1 ∷ []) ∷  -- Cash: 11; 11
     []
 
+-- the cells of a row by name; a cell that is not there is 0
 abbrev pub contractBy : List ℕ → Contract
 contractBy row = record { first = getD row 0 0; past = getD row 1 0; twap = getD row 2 0; step = getD row 3 0 }
 
@@ -86,10 +88,11 @@ instruments =
 abbrev pub legBy : ℕ → ℕ → Leg
 legBy a b = cond (ltb b a) (Over b) (cond (ltb a b) (Under a) Outright)
 
--- the leg of an instrument; one that is in no row is as the outright
+-- A and B are the cells of a row
 abbrev pub rowLeg : List ℕ → Leg
 rowLeg row = legBy (getD row 0 0) (getD row 1 0)
 
+-- the leg of an instrument; one that is in no row is as the outright
 unfoldable pub legOf : ℕ → Leg
 legOf i = rowLeg (getD instruments i [])
 
@@ -105,6 +108,7 @@ stepOf metal c = cond (eqb (contractOf c .step) 0) (metalOf metal .step) (contra
 pub windowLength : ℕ
 windowLength = 300000
 
+-- the number itself, for a proof that asks for it
 pub window-length : windowLength ≡ 300000
 unfolding windowLength
 window-length = refl

@@ -2,21 +2,28 @@
 --     pricedOf     the contract that an instrument prices: the later of its two
 --     agree        the two tables agree: an instrument is among a contract's VWAP instruments exactly where it prices that contract
 --     ruled        of each contract: its TWAP instrument is among its VWAP instruments, and their other legs are priced earlier
+--     follows      every metal's anchor window follows its spread window
+--     start-early  no window starts after Lead's anchor window, so that none runs past the day
+--     step-some    every step is 1 cent or more
 --     p11, p12     document 01's examples of a window's last millisecond and of the one behind it
 -- Assumes nothing.
-use Prim.Native.Nat.{ℕ, _≤_, _<_, max}
+use Prim.Native.Nat.{ℕ, zero, suc, _+_, _≤_, _<_, max}
 use mathlib.Core.Path.{_≡_, refl, sym, subst, _∙_}
-use mathlib.Core.Bool.{Bool, true, false, _&&_, not}
+use mathlib.Core.Bool.{Bool, true, false, _&&_, not, cond}
 use mathlib.Core.List.{List, []}
+use native.Mathlib.Decide.{decLt}
 use native.Mathlib.Nat.{le-trans}
-use borrow.Author.Tests.{le-leb, lt-ltb, eqb-true}
+use native.Mathlib.Omega.{arith}
+use borrow.Author.Tests.{le-leb, lt-ltb, eqb-true, eqb-false}
 use lib.Dec.{T, leb, ltb, eqb, leb→le, ltb→lt, eqb→eq}
 use lib.ListN.{getD}
+use Rattle.market.specs.declared.Metal.{Metal}
 use Rattle.market.specs.declared.Leg.{Leg}
 use Rattle.market.specs.declared.Leg.the-variants.{Outright, Over, Under}
 use Rattle.market.specs.declared.Contract.{Contract}
-use Rattle.market.specs.Market.{metalOf, contractOf, instruments, legOf, startOf, window-length, inWindow}
+use Rattle.market.specs.Market.{metalOf, contractOf, instruments, legOf, startOf, stepOf, windowLength, window-length, inWindow}
 use Rattle.market.specs.Table.{upTo, below}
+use Rattle.market.specs.Laws.{metal-none}
 
 -- ---- P11 and P12: a Nickel spread trade at 58,499,999 counts, at 58,500,000 it doesn't
 
@@ -110,3 +117,42 @@ ruled c h = record {
 
     priced : (i : ℕ) → contractOf c .first ≤ i → i < contractOf c .past → pricedOf i ≡ c
     priced i l k = eqb-true (pricedOf i) c (sym (agree c i h (le-trans k inside)) ∙ simp (le-leb _ _ l, lt-ltb _ _ k))
+
+-- ---- what a metal's row says
+
+-- the test f passes at the row of each metal
+by-metal : (f : Metal → Bool) → T (upTo (λ m. f (metalOf (suc m))) 5) → (m : ℕ) → 1 ≤ m → m ≤ 5 → T (f (metalOf m))
+by-metal f t zero l h = absurd (omega arith)
+by-metal f t (suc m) l h = below (λ m. f (metalOf (suc m))) 5 m t (omega arith)
+
+pub follows : (m : ℕ) → 1 ≤ m → m ≤ 5 → metalOf m .anchor ≡ metalOf m .spread + windowLength
+unfolding metalOf
+follows m l h = eqb→eq _ _ (by-metal (λ r. eqb (r .anchor) (r .spread + 300000)) tt m l h) ∙ rw window-length
+
+-- a test of a metal's row that zeros pass too holds of every metal
+by-any-metal : (f : Metal → Bool) → T (upTo (λ m. f (metalOf m)) 6) → (m : ℕ) → T (f (metalOf m))
+unfolding metalOf
+by-any-metal f t m = by-last (decLt m 6)
+  where
+    none : T (f (metalOf 0))
+    none = below (λ m. f (metalOf m)) 6 0 t (omega arith)
+
+    by-last : Dec (m < 6) → T (f (metalOf m))
+    by-last (yes l) = below (λ m. f (metalOf m)) 6 m t l
+    by-last (no l) = rw (sym (metal-none m (omega arith))) none
+
+pub start-early : (m i : ℕ) → startOf m i ≤ 60900000
+unfolding metalOf startOf
+start-early m i = by-window (eqb i 0)
+  where
+    by-window : (b : Bool) → cond b (metalOf m .anchor) (metalOf m .spread) ≤ 60900000
+    by-window true = leb→le _ _ (by-any-metal (λ r. leb (r .anchor) 60900000) tt m)
+    by-window false = leb→le _ _ (by-any-metal (λ r. leb (r .spread) 60900000) tt m)
+
+pub step-some : (m c : ℕ) → 1 ≤ m → m ≤ 5 → 0 < stepOf m c
+unfolding metalOf stepOf
+step-some m c l h = by-test (eqb (contractOf c .step) 0) refl
+  where
+    by-test : (b : Bool) → eqb (contractOf c .step) 0 ≡ b → 0 < cond b (metalOf m .step) (contractOf c .step)
+    by-test true e = ltb→lt _ _ (by-metal (λ r. ltb 0 (r .step)) tt m l h)
+    by-test false e = omega (arith, eqb-false (contractOf c .step) 0 e)

@@ -1,5 +1,4 @@
-// Document 01's constant tables: the windows and rounding steps by metal, the contracts in pricing order, the two sides of each
-// instrument, and the marks. Hosts don't call it.
+// Document 01's constant tables by metal, by contract and by instrument, the windows and the marks. Hosts don't call it.
 ghost use mathlib.Core.Path.{_≡_};
 ghost use Rattle.market.specs.Market.{metalOf, contractOf, legOf, startOf, stepOf, inWindow, marked};
 
