@@ -1,6 +1,6 @@
 -- Document 01, P4: "indicator 375 for one minute, 400 for two, 375 for one, 350 for one: TWAP 380". Here the sum, 300,000 times that.
 -- Assumes nothing.
-use Prim.Native.Nat.{ℕ, _*_, _≤_}
+use Prim.Native.Nat.{ℕ, _*_}
 use mathlib.Core.Path.{_≡_, sym, ap, _∙_}
 use mathlib.Core.List.{List, [], _∷_}
 use lib.Dec.{lit≤}
@@ -9,14 +9,15 @@ use Rattle.field.specs.declared.Field.{Field}
 use Rattle.field.specs.declared.Field.the-variants.{PreviousClose, Trade}
 use Rattle.market.specs.Market.{window-length}
 use Rattle.indicator.specs.declared.Indicator.{Indicator}
-use Rattle.indicator.specs.Indicator.{empty, taken, stamp, sumFrom, centsAt, twapSum}
+use Rattle.indicator.specs.Indicator.{empty, taken, sumFrom, centsAt, twapSum}
 use Rattle.indicator.specs.Sums.{sum-none}
-use Rattle.indicator.specs.Laws.{Reached, reached-none, reached-more, reached-later, reached-on}
+use Rattle.indicator.specs.Laws.{Reached, reached-none, reached-more, reached-on}
 
--- M1-M2 in Copper's spread window
-abbrev start : ℕ
+-- the start of Copper's spread window
+abbrev pub start : ℕ
 start = 60000000
 
+-- a previous close of M1-M2 and its trades, last first
 abbrev closed : Field
 closed = PreviousClose 7 (record { cents = pos 375 })
 
@@ -32,7 +33,8 @@ rest2 = traded 60180000 375 ∷ rest3
 abbrev rest1 : List Field
 rest1 = traded 60060000 400 ∷ rest2
 
-abbrev day : List Field
+-- the fields of the day
+abbrev pub day : List Field
 day = closed ∷ rest1
 
 -- the state after one field, two, three and four
@@ -48,20 +50,18 @@ three = taken 7 start two (traded 60180000 375)
 abbrev four : Indicator
 four = taken 7 start three (traded 60240000 350)
 
-go-on : (t u : ℕ) (s : Indicator) (f : Field) (rest : List Field) → t ≤ u → stamp f ≤ u → Reached 7 start t day s (f ∷ rest) → Reached 7 start u day (taken 7 start s f) rest
-go-on t u s f rest l h r = reached-more 7 start day u s f rest h (reached-later 7 start day t u s (f ∷ rest) l r)
-
+-- which the indicator has from each record's time on
 by-one : Reached 7 start 60000000 day one rest1
-by-one = go-on 0 60000000 empty closed rest1 (lit≤ tt) (lit≤ tt) (reached-none 7 start day)
+by-one = reached-more 7 start day 0 60000000 empty closed rest1 (lit≤ tt) (lit≤ tt) (reached-none 7 start day)
 
 by-two : Reached 7 start 60060000 day two rest2
-by-two = go-on 60000000 60060000 one (traded 60060000 400) rest2 (lit≤ tt) (lit≤ tt) by-one
+by-two = reached-more 7 start day 60000000 60060000 one (traded 60060000 400) rest2 (lit≤ tt) (lit≤ tt) by-one
 
 by-three : Reached 7 start 60180000 day three rest3
-by-three = go-on 60060000 60180000 two (traded 60180000 375) rest3 (lit≤ tt) (lit≤ tt) by-two
+by-three = reached-more 7 start day 60060000 60180000 two (traded 60180000 375) rest3 (lit≤ tt) (lit≤ tt) by-two
 
 by-four : Reached 7 start 60240000 day four []
-by-four = go-on 60180000 60240000 three (traded 60240000 350) [] (lit≤ tt) (lit≤ tt) by-three
+by-four = reached-more 7 start day 60180000 60240000 three (traded 60240000 350) [] (lit≤ tt) (lit≤ tt) by-three
 
 pub p4 : twapSum 7 start day ≡ pos (300000 * 380)
 unfolding taken

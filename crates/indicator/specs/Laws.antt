@@ -81,15 +81,17 @@ pub record Reached (i start t : ℕ) (fs : List Field) (s : Indicator) (rest : L
   pub same : (u : ℕ) → t ≤ u → after i start u fs ≡ afterFrom i start u s rest
 
 module _ (i start : ℕ) (fs : List Field) where
+  -- no field yet
   pub reached-none : Reached i start 0 fs empty fs
   reached-none = record { same = λ u l. refl }
 
+  -- a later millisecond
   pub reached-later : (t u : ℕ) (s : Indicator) (rest : List Field) → t ≤ u → Reached i start t fs s rest → Reached i start u fs s rest
   reached-later t u s rest l r = record { same = λ v h. r .same v (le-trans l h) }
 
-  -- one field more
-  pub reached-more : (t : ℕ) (s : Indicator) (f : Field) (rest : List Field) → stamp f ≤ t → Reached i start t fs s (f ∷ rest) → Reached i start t fs (taken i start s f) rest
-  reached-more t s f rest l r = record { same = λ u h. r .same u h ∙ due i start u s f rest (le-trans l h) }
+  -- one field more, which counts at u
+  pub reached-more : (t u : ℕ) (s : Indicator) (f : Field) (rest : List Field) → t ≤ u → stamp f ≤ u → Reached i start t fs s (f ∷ rest) → Reached i start u fs (taken i start s f) rest
+  reached-more t u s f rest l k r = record { same = λ v h. r .same v (le-trans l h) ∙ due i start v s f rest (le-trans k h) }
 
   -- until the next field the state is the indicator's
   pub reached-state : (t u m : ℕ) (s : Indicator) (rest : List Field) → Reached i start t fs s rest → t ≤ u → u < m → Rising m rest → after i start u fs ≡ s

@@ -46,6 +46,7 @@ const CONTRACTS: [[u8; 4]; 6] = [
     [11, 12, 11, 1],
 ];
 
+// The contracts by their place in pricing order.
 const THREE_M: usize = 0;
 
 const M3: usize = 1;
