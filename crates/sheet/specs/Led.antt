@@ -45,6 +45,11 @@ pub stood-more : {s : List ℕ} {at next end : ℕ} {fs : List Field} {f : Field
 stood-more here e = then e here
 stood-more (then d l) e = then d (stood-more l e)
 
+-- a field has a byte or more, so that no more fields than bytes stand between two places
+pub stood-long : {s : List ℕ} {at next : ℕ} {fs : List Field} → Stood s at fs next → at + length fs ≤ next
+stood-long here = omega arith
+stood-long {s} {at} (then d t) = omega (arith, shape-grows s at d, stood-long t)
+
 -- ---- judging and listing go on behind them
 
 pub led-judges : {s : List ℕ} (n : ℕ) {at next : ℕ} {p q : Progress} {fs : List Field} → Led p fs q → Stood s at fs next → judgeReads n at p (readsAt s at) ≡ judgeReads n next q (readsAt s next)
