@@ -1,0 +1,131 @@
+// What a contract's TWAP needs of its instrument: the sum of the indicator over the window, or that it has no reference. Hosts don't call it.
+ghost use mathlib.Core.Path.{_≡_};
+ghost use Prim.Native.Nat.{suc, _*_, _≤_};
+ghost use lib.IntN.{natAbs};
+ghost use Rattle.sheet.specs.Fields.{fieldsOf};
+ghost use Rattle.indicator.specs.Indicator.{stamp, twapSum};
+ghost use Rattle.twap.specs.Span.{spanOf, spanSays, Accepted};
+ghost use Rattle.twap.specs.Walking.{Stands, withSide};
+use field::Field;
+use field::Read;
+use indicator::Indicator;
+use indicator::Side;
+use indicator::take_field;
+use market::WINDOW;
+use reader::shape_at;
+
+// A sum of cents.
+pub struct Total {
+    pub cents: i64,
+}
+
+// The sum over a window, or none where there is no reference at its first millisecond.
+pub enum Summed {
+    Missing,
+    Sum(Total),
+}
+
+// The indicator's state, and the place of the first field that it does not have yet.
+struct Walk {
+    state: Indicator,
+    at: usize,
+}
+
+// The millisecond from which a field counts: a record's time; any other field counts all day.
+fn stamp_of(field: Field) -> u64
+    ensures { λ r. ⌜ r ≡ stamp field ⌝ }
+{
+    match field {
+        Field::Trade {
+            time,
+            instrument: _,
+            price: _,
+            lots: _,
+        } => time as u64,
+        Field::Quote {
+            time,
+            instrument: _,
+            sides: _,
+            bid: _,
+            offer: _,
+        } => time as u64,
+        Field::Header { metal: _, marks: _ } => 0,
+        Field::PreviousClose {
+            instrument: _,
+            price: _,
+        } => 0,
+        Field::End { count: _ } => 0,
+    }
+}
+
+// Takes every field that counts at the millisecond, and stops at the first that comes later.
+fn advance(sheet: &[u8], instrument: u8, start: u32, millisecond: u64, walk: Walk) -> Walk
+    requires { ⌜ Stands instrument start millisecond 0 (now sheet) walk ⌝ }
+    ensures { λ r. ⌜ Stands instrument start millisecond (suc millisecond) (now (sheet .entry)) r ⌝ }
+{
+    let mut state = walk.state;
+    let mut at = walk.at;
+    loop {
+        match shape_at(sheet, at) {
+            Read::Field(field, next) => {
+                if millisecond < stamp_of(field) {
+                    return Walk { state, at };
+                }
+                state = take_field(state, instrument, start, field);
+                at = next;
+            }
+            Read::Refused(_, _) => {
+                return Walk { state, at };
+            }
+        }
+    }
+}
+
+// The total with a side more; one that is absent counts 0.
+fn plus(total: Total, side: Side) -> Total
+    requires { ⌜ natAbs (total .cents) ≤ 300000 * 99999999 ⌝ }
+    ensures { λ r. ⌜ r ≡ withSide total side ⌝ }
+{
+    match side {
+        Side::Absent => total,
+        Side::At(price) => Total {
+            cents: total.cents + price.cents as i64,
+        },
+    }
+}
+
+// The sum over the window's milliseconds, one after the other, from a walk that stands at the first.
+fn sum_from(sheet: &[u8], instrument: u8, start: u32, first: Walk) -> Total
+    requires { ⌜ Accepted (now sheet) ⌝ }
+    requires { ⌜ Stands instrument start start 0 (now sheet) first ⌝ }
+    ensures { λ r. ⌜ r .cents ≡ twapSum instrument start (fieldsOf (now (sheet .entry))) ⌝ }
+{
+    let mut walk = first;
+    let mut total = Total { cents: 0 };
+    let mut past: u32 = 0;
+    while past < WINDOW {
+        let millisecond = start as u64 + past as u64;
+        walk = advance(sheet, instrument, start, millisecond, walk);
+        let state = walk.state;
+        total = plus(total, state.value());
+        past += 1;
+    }
+    total
+}
+
+// The sum of the instrument's indicator over the window that starts at start, in an accepted sheet.
+pub fn span_of(sheet: &[u8], instrument: u8, start: u32) -> Summed
+    requires { ⌜ Accepted (now sheet) ⌝ }
+    ensures { λ r. ⌜ spanSays r ≡ spanOf instrument start (fieldsOf (now (sheet .entry))) ⌝ }
+{
+    let none = Walk {
+        state: Indicator::empty(),
+        at: 0,
+    };
+    let first = advance(sheet, instrument, start, start as u64, none);
+    let state = first.state;
+    if state.has_reference() {
+        return Summed::Sum(sum_from(sheet, instrument, start, first));
+    }
+    Summed::Missing
+}
