@@ -1,0 +1,3 @@
+pub mod Trades
+pub mod Laws
+pub mod Pass
