@@ -1,0 +1,63 @@
+-- What each answer of the code says in document 01's numbers and values; no two say the same. Assumes nothing.
+use Prim.Native.Nat.{ℕ}
+use mathlib.Core.Path.{_≡_, refl, sym, ap, _∙_}
+use mathlib.Core.Bool.{cond}
+use mathlib.Core.List.{List, [], _∷_}
+use lib.Dec.{eqb}
+use lib.ListN.{getD}
+use Rattle.promise.specs.Once.{through}
+use Rattle.sheet.specs.declared.Day.{Day}
+use Rattle.closing.specs.declared.Answer.{Answer}
+use Rattle.closing.specs.declared.Answer.the-variants.{Priced, NoReference, OutOfRange, NotReached}
+use Rattle.closing.specs.declared.SixAnswers.{SixAnswers}
+use Rattle.closing.specs.declared.Closed.{Closed}
+use Rattle.closing.specs.declared.Closed.the-variants as C
+use Rattle.closing.specs.Closing.{Told, close, refused, Answers, six, none-priced}
+
+-- a contract's answer: 13 and 14 with the lots, 15 with 0 lots
+abbrev pub answerSays : Answer → Told
+answerSays (Priced method m lots) = close method m lots
+answerSays (NoReference lots) = refused 13 lots
+answerSays (OutOfRange lots) = refused 14 lots
+answerSays NotReached = refused 15 0
+
+-- the six in pricing order
+abbrev pub closingsSay : SixAnswers → List Told
+closingsSay r = answerSays (r .three) ∷ answerSays (r .m3) ∷ answerSays (r .m2) ∷ answerSays (r .m4) ∷ answerSays (r .m1) ∷ answerSays (r .cash) ∷ []
+
+-- a sheet's
+abbrev pub closedSays : Closed → Answers
+closedSays (C.Six day r) = six day (closingsSay r)
+closedSays (C.Refused number at) = none-priced number at
+
+-- ---- an answer, read off what it says
+
+abbrev answer-of : Told → Answer
+answer-of (close method m lots) = Priced method m lots
+answer-of (refused number lots) = cond (eqb number 13) (NoReference lots) (cond (eqb number 14) (OutOfRange lots) NotReached)
+
+answer-back : (a : Answer) → answer-of (answerSays a) ≡ a
+answer-back (Priced method m lots) = refl
+answer-back (NoReference lots) = refl
+answer-back (OutOfRange lots) = refl
+answer-back NotReached = refl
+
+abbrev at : List Told → ℕ → Answer
+at ts c = answer-of (getD ts c (refused 15 0))
+
+abbrev closings-of : List Told → SixAnswers
+closings-of ts = record { three = at ts 0; m3 = at ts 1; m2 = at ts 2; m4 = at ts 3; m1 = at ts 4; cash = at ts 5 }
+
+closings-back : (r : SixAnswers) → closings-of (closingsSay r) ≡ r
+closings-back r = simp (answer-back (r .three), answer-back (r .m3), answer-back (r .m2), answer-back (r .m4), answer-back (r .m1), answer-back (r .cash))
+
+abbrev closed-of : Answers → Closed
+closed-of (six day ts) = C.Six day (closings-of ts)
+closed-of (none-priced number at) = C.Refused number at
+
+closed-back : (r : Closed) → closed-of (closedSays r) ≡ r
+closed-back (C.Six day r) = ap (C.Six day) (closings-back r)
+closed-back (C.Refused number at) = refl
+
+pub closed-once : {d : Answers} {x y : Closed} → closedSays x ≡ d → closedSays y ≡ d → x ≡ y
+closed-once p q = through closedSays closed-of closed-back p q
