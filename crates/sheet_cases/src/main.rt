@@ -1,8 +1,12 @@
 // Judges sheets that are written as hexadecimal digits, one sheet to a line, and prints what is said of each. A line that starts with # is
-// printed as it stands, so that input and output read side by side.
+// printed as it stands, so that input and output read side by side; a sheet behind = is priced, and its six answers are printed.
 ghost use mathlib.Core.Path.{_≡_};
 ghost use Prim.Native.Nat.{_<_, _≤_};
 ghost use lib.ListN.{length};
+use closing::Answer;
+use closing::Closed;
+use closing::Method;
+use closing::closings;
 use libc::STDIN_FILENO;
 use libc::STDOUT_FILENO;
 use sheet::Judged;
@@ -12,6 +16,67 @@ use sheet::judge_sheet;
 fn print_number(n: u64) {
     io::write_all(STDOUT_FILENO, b" ");
     io::print_decimal(STDOUT_FILENO, n);
+}
+
+// A number behind `refused`, and what comes with it.
+fn print_refused(number: u64, with: u64) {
+    io::write_all(STDOUT_FILENO, b"refused");
+    print_number(number);
+    print_number(with);
+}
+
+// A priced contract's method, close and lots.
+fn print_close(method: Method, close: u32, lots: u64) {
+    match method {
+        Method::Vwap => {
+            io::write_all(STDOUT_FILENO, b"VWAP");
+        }
+        Method::Twap => {
+            io::write_all(STDOUT_FILENO, b"TWAP");
+        }
+    }
+    print_number(close as u64);
+    print_number(lots);
+}
+
+// A contract's answer, on a line of its own.
+fn print_answer(name: &[u8], answer: Answer) {
+    io::write_all(STDOUT_FILENO, name);
+    match answer {
+        Answer::Priced {
+            method,
+            close,
+            lots,
+        } => print_close(method, close, lots),
+        Answer::NoReference(lots) => print_refused(13, lots),
+        Answer::OutOfRange(lots) => print_refused(14, lots),
+        Answer::NotReached => print_refused(15, 0),
+    }
+    io::write_all(STDOUT_FILENO, b"\n");
+}
+
+// The six answers of a sheet, a line each, or its refusal.
+fn print_answers(sheet: &[u8]) {
+    match closings(sheet) {
+        Closed::Six(_, six) => {
+            let three = six.three;
+            print_answer(b"3M ", three);
+            let m3 = six.m3;
+            print_answer(b"M3 ", m3);
+            let m2 = six.m2;
+            print_answer(b"M2 ", m2);
+            let m4 = six.m4;
+            print_answer(b"M4 ", m4);
+            let m1 = six.m1;
+            print_answer(b"M1 ", m1);
+            let cash = six.cash;
+            print_answer(b"Cash ", cash);
+        }
+        Closed::Refused(number, at) => {
+            print_refused(number as u64, at as u64);
+            io::write_all(STDOUT_FILENO, b"\n");
+        }
+    }
 }
 
 // What is said of a sheet, on a line of its own.
@@ -24,12 +89,19 @@ fn print_judged(sheet: &[u8]) {
             print_number(day.fields as u64);
         }
         Judged::Refused(number, at) => {
-            io::write_all(STDOUT_FILENO, b"refused");
-            print_number(number as u64);
-            print_number(at as u64);
+            print_refused(number as u64, at as u64);
         }
     }
     io::write_all(STDOUT_FILENO, b"\n");
+}
+
+// A sheet's answers, or what its judgement says.
+fn print_said(priced: bool, sheet: &[u8]) {
+    if priced {
+        print_answers(sheet);
+    } else {
+        print_judged(sheet);
+    }
 }
 
 // The value of a hexadecimal digit; 0 for any other byte.
@@ -80,23 +152,27 @@ fn decode(line: &[u8], out: &mut [u8]) -> usize
     n
 }
 
-// Judges the sheet that a line says.
-fn judge_line(line: &[u8], space: &mut [u8]) {
+// Judges the sheet that a line says, or prices it.
+fn answer_line(priced: bool, line: &[u8], space: &mut [u8]) {
     let n = decode(line, space);
-    print_judged(&space[..n]);
+    print_said(priced, &space[..n]);
 }
 
 // One line of the input.
 fn take_line(line: &[u8]) {
+    let mut space = [0u8; 4096];
     if 0 < line.len() {
         if line[0] == 35 {
             io::write_all(STDOUT_FILENO, line);
             io::write_all(STDOUT_FILENO, b"\n");
             return;
         }
+        if line[0] == 61 {
+            answer_line(true, &line[1..], &mut space);
+            return;
+        }
     }
-    let mut space = [0u8; 4096];
-    judge_line(line, &mut space);
+    answer_line(false, line, &mut space);
 }
 
 // Each line of the input.
