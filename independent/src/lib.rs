@@ -1,0 +1,33 @@
+//! A second reading of the closing-price rules (document 01), written from the
+//! document alone so that its answers can be compared with another library's.
+//!
+//! * [`tables`]    metals, windows, steps, instruments and contracts
+//! * [`field`]     one field: its values, reading it, writing it, walking
+//! * [`sheet`]     a whole day sheet: which refusal, or the day it holds
+//! * [`indicator`] the indicator and its sum over a window
+//! * [`pricing`]   the six contracts
+//! * [`list`]      the closing list as text
+//! * [`draft`]     sheets put together by hand, without any test of values
+//! * [`random`]    the random numbers of the generator
+//! * [`generator`] random sheets, accepted and damaged
+//! * [`named`]     hand-made sheets with hand-written answers
+//! * [`laws`]      shifted and turned sheets
+//! * [`stream`]    many sheets in one stream, and the answers to them
+
+pub mod draft;
+pub mod field;
+pub mod generator;
+pub mod indicator;
+pub mod laws;
+pub mod list;
+pub mod named;
+pub mod pricing;
+pub mod random;
+pub mod sheet;
+pub mod stream;
+pub mod tables;
+
+pub use field::{read_field, write_field, Field, Refusal, Walker};
+pub use list::closing_list;
+pub use pricing::{price_day, Answer, Method};
+pub use sheet::{judge_sheet, Day};

@@ -1,0 +1,108 @@
+//! The commands: a closing list, streams of cases, and the answers to them.
+
+use independent::generator::sized::sized_sheet;
+use independent::laws::Pair;
+use independent::list::closing_list;
+use independent::named::named_cases;
+use independent::random::Random;
+use independent::stream;
+use independent::tables::LIST_LIMIT;
+use std::io::{self, Read, Write};
+use std::process::ExitCode;
+
+const USAGE: &str = "usage:
+  independent list < SHEET              the closing list
+  independent cases SEED COUNT          a stream of cases, the named ones first
+  independent names                     the names of the named cases, in order
+  independent answer < STREAM           each closing list and an empty line
+  independent answer-by-spans < STREAM  the same, faster
+  independent judge < STREAM            accepted or refused, a line each
+  independent tally < STREAM            how often each number is given
+  independent shifted SEED COUNT        a stream of pairs, 3M shifted
+  independent shifts SEED COUNT         by how many steps each pair is shifted
+  independent turned SEED COUNT         a stream of pairs, one spread turned
+  independent turns SEED COUNT          which spread each pair has turned
+  independent sized SEED BYTES          one accepted sheet of so many bytes
+";
+
+fn main() -> ExitCode {
+    let words: Vec<String> = std::env::args().skip(1).collect();
+    let words: Vec<&str> = words.iter().map(String::as_str).collect();
+    let done = run(&words).and_then(|output| {
+        let written = io::stdout().write_all(&output);
+        written.map_err(|error| error.to_string())
+    });
+    match done {
+        Ok(()) => ExitCode::SUCCESS,
+        Err(message) => {
+            let _ = writeln!(io::stderr(), "{message}");
+            ExitCode::FAILURE
+        }
+    }
+}
+
+fn run(words: &[&str]) -> Result<Vec<u8>, String> {
+    match words {
+        ["list"] => Ok(closing_list(&read_sheet()?)),
+        ["names"] => Ok(names().into_bytes()),
+        [command, seed, count] => {
+            let seed = seed.parse().map_err(|_| USAGE.to_string())?;
+            let count = count.parse().map_err(|_| USAGE.to_string())?;
+            make(command, seed, count)
+        }
+        [command] => read_and_answer(command),
+        _ => Err(USAGE.to_string()),
+    }
+}
+
+/// The commands that make sheets from a seed.
+fn make(command: &str, seed: u64, count: usize) -> Result<Vec<u8>, String> {
+    match command {
+        "cases" => Ok(stream::stream_of_cases(&stream::cases(seed, count))),
+        "shifted" => Ok(stream::stream_of_pairs(&stream::shifted(seed, count))),
+        "shifts" => Ok(numbers(&stream::shifted(seed, count))),
+        "turned" => Ok(stream::stream_of_pairs(&stream::turned(seed, count))),
+        "turns" => Ok(numbers(&stream::turned(seed, count))),
+        "sized" => {
+            sized_sheet(&mut Random::new(seed), count).ok_or_else(|| format!("no fields fill {count} bytes"))
+        }
+        _ => Err(USAGE.to_string()),
+    }
+}
+
+/// The commands that read a stream.
+fn read_and_answer(command: &str) -> Result<Vec<u8>, String> {
+    let answer: fn(&[&[u8]]) -> Vec<u8> = match command {
+        "answer" => stream::answer,
+        "answer-by-spans" => stream::answer_by_spans,
+        "judge" => |sheets| stream::judge(sheets).into_bytes(),
+        "tally" => |sheets| stream::tally_text(sheets).into_bytes(),
+        _ => return Err(USAGE.to_string()),
+    };
+    let mut input = Vec::new();
+    let read = io::stdin().read_to_end(&mut input);
+    read.map_err(|error| error.to_string())?;
+    let cut = |byte| format!("the stream is cut short in the sheet at byte {byte}");
+    let sheets = stream::frames(&input).map_err(cut)?;
+    Ok(answer(&sheets))
+}
+
+/// Standard input up to one byte more than the list's limit.
+fn read_sheet() -> Result<Vec<u8>, String> {
+    let mut sheet = Vec::new();
+    let limit = LIST_LIMIT as u64 + 1;
+    let read = io::stdin().take(limit).read_to_end(&mut sheet);
+    read.map_err(|error| error.to_string())?;
+    Ok(sheet)
+}
+
+fn names() -> String {
+    let names = named_cases().into_iter().map(|case| case.name + "\n");
+    names.collect()
+}
+
+/// What each pair was changed by, a line each.
+fn numbers(pairs: &[Pair]) -> Vec<u8> {
+    let lines = pairs.iter().map(|pair| format!("{}\n", pair.by));
+    lines.collect::<String>().into_bytes()
+}

@@ -1,0 +1,149 @@
+//! Hand-made sheets with their closing lists written by hand from document 01
+//! and the readings taken of it. A name begins with the reading's id where
+//! there is one.
+
+mod edges;
+mod fields;
+mod order;
+mod papers;
+mod pricing;
+mod signs;
+
+use crate::draft::{close, ended_sheet, header, quote, sheet_of, trade};
+use crate::field::Field;
+
+pub use papers::{copper_sheet, nickel_sheet, COPPER_LIST, NICKEL_LIST};
+
+/// A sheet, and the closing list it must give.
+#[derive(Clone, Debug)]
+pub struct NamedCase {
+    pub name: String,
+    pub sheet: Vec<u8>,
+    pub list: String,
+}
+
+/// Copper's windows, which most cases use.
+const SPREAD: u32 = 60_000_000;
+const ANCHOR: u32 = 60_300_000;
+const COPPER: u8 = 4;
+
+fn case(name: &str, sheet: Vec<u8>, list: &str) -> NamedCase {
+    NamedCase { name: name.to_string(), sheet, list: list.to_string() }
+}
+
+/// A case refused with this number at this byte.
+fn refused(name: &str, sheet: Vec<u8>, number: u8, byte: usize) -> NamedCase {
+    case(name, sheet, &format!("refused {number} {byte}\n"))
+}
+
+/// A case made of whole fields, refused.
+fn refused_fields(name: &str, fields: &[Field], number: u8, byte: usize) -> NamedCase {
+    refused(name, sheet_of(fields), number, byte)
+}
+
+/// A Copper header, then these bytes.
+fn behind_header(bytes: &[u8]) -> Vec<u8> {
+    let mut sheet = sheet_of(&[header(COPPER, 0)]);
+    sheet.extend(bytes);
+    sheet
+}
+
+/// A list of six lines under a metal's name.
+fn lines(metal: &str, contracts: [&str; 6]) -> String {
+    let mut text = format!("{metal}\n");
+    for (name, answer) in ["3M", "M3", "M2", "M4", "M1", "Cash"].iter().zip(contracts) {
+        text.push_str(&format!("{name} {answer}\n"));
+    }
+    text
+}
+
+/// The Copper list of six lines.
+fn copper(contracts: [&str; 6]) -> String {
+    lines("Copper", contracts)
+}
+
+/// The Copper list of the contracts priced, then one refused, then the rest.
+fn copper_until(contracts: &[&str]) -> String {
+    let mut all = ["refused 15 0"; 6];
+    for (place, answer) in all.iter_mut().zip(contracts) {
+        *place = answer;
+    }
+    copper(all)
+}
+
+/// Previous closes for every TWAP: 3M at 900,000 and all spreads at 0, so that
+/// without records every contract is 900,000 by TWAP with 0 lots.
+fn flat_closes() -> Vec<Field> {
+    vec![close(0, 900_000), close(1, 0), close(3, 0), close(5, 0), close(7, 0), close(11, 0)]
+}
+
+/// A sheet with the flat closes and these records.
+fn flat_of(metal: u8, marks: u16, records: &[Field]) -> Vec<u8> {
+    let mut fields = vec![header(metal, marks)];
+    fields.extend(flat_closes());
+    fields.extend(records);
+    ended_sheet(&fields)
+}
+
+/// A Copper sheet with the flat closes and these records.
+fn flat(records: &[Field]) -> Vec<u8> {
+    flat_of(COPPER, 0, records)
+}
+
+/// A Copper sheet with the flat closes except one instrument's, and records.
+fn flat_without(instrument: u8, records: &[Field]) -> Vec<u8> {
+    let lacks = |field: &Field| match field {
+        Field::PreviousClose(close) => close.instrument != instrument,
+        _ => true,
+    };
+    let mut fields = vec![header(COPPER, 0)];
+    fields.extend(flat_closes().into_iter().filter(lacks));
+    fields.extend(records);
+    ended_sheet(&fields)
+}
+
+/// The list of a Copper sheet in which nothing has a price.
+fn nothing() -> String {
+    copper_until(&["refused 13 0"])
+}
+
+/// All named cases that fit the program, the papers' own first.
+pub fn named_cases() -> Vec<NamedCase> {
+    let mut cases = papers::cases();
+    cases.extend(fields::cases());
+    cases.extend(order::cases());
+    cases.extend(edges::cases());
+    cases.extend(signs::cases());
+    cases.extend(pricing::cases());
+    cases.extend(papers::cut_nickel_sheets());
+    cases.push(full_case("a sheet of 65,536 bytes", 4_661, 13));
+    cases
+}
+
+/// The flat Copper sheet (61 bytes) with so many trades of 10,000 lots at 10
+/// on M3-3M (14 bytes each) and so many empty quotes on M2-3M (17 bytes each).
+fn full_sheet(trades: usize, quotes: usize) -> Vec<u8> {
+    let mut records = vec![trade(SPREAD, 1, 10, 10_000); trades];
+    records.extend(vec![quote(SPREAD, 2, 0, 0, 0); quotes]);
+    flat(&records)
+}
+
+fn full_case(name: &str, trades: usize, quotes: usize) -> NamedCase {
+    let lots = trades * 10_000;
+    let m3 = format!("VWAP 900010 {lots}");
+    let rest = "TWAP 900010 0";
+    let list = copper(["TWAP 900000 0", &m3, rest, rest, rest, rest]);
+    case(name, full_sheet(trades, quotes), &list)
+}
+
+/// Cases longer than the program reads. The list is the one without the
+/// program's own limit; the program prints `too long` for each.
+pub fn large_cases() -> Vec<NamedCase> {
+    let garbage = vec![0xFF; 1_048_577];
+    vec![
+        full_case("a sheet of 65,537 bytes", 4_672, 4),
+        full_case("a sheet of 1,048,576 bytes", 74_883, 9),
+        refused("B17 a good sheet of 1,048,577 bytes", full_sheet(74_894, 0), 1, 0),
+        refused("B17 a bad first tag and 1,048,577 bytes", garbage, 1, 0),
+    ]
+}

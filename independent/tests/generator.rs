@@ -1,0 +1,193 @@
+//! What the generator makes: accepted sheets are accepted, faults are refused
+//! as they were meant to be, every number and every kind of answer comes up.
+
+use independent::draft::{ended_sheet, header};
+use independent::generator::fault::sheet_with_fault;
+use independent::generator::sized::sized_sheet;
+use independent::generator::{accepted_sheet, damaged_sheet, random_sheet};
+use independent::indicator::sum_by_spans;
+use independent::pricing::{exact_price, price_day_by_spans, step_of, Method};
+use independent::random::Random;
+use independent::sheet::Record;
+use independent::stream::{cases, frames, stream_of_cases, tally};
+use independent::tables::{metal_row, WINDOW};
+use independent::{closing_list, judge_sheet, Answer, Day};
+use std::collections::HashMap;
+
+fn accepted_days(count: u64) -> impl Iterator<Item = Day> {
+    (0..count).map(|item| {
+        let sheet = accepted_sheet(&mut Random::for_item(5, item));
+        judge_sheet(&sheet).expect("an accepted sheet")
+    })
+}
+
+#[test]
+fn faults_are_refused_as_they_were_made() {
+    for number in 1..=12 {
+        let rounds = if number == 1 { 3 } else { 1_500 };
+        for item in 0..rounds {
+            let made = sheet_with_fault(&mut Random::for_item(u64::from(number), item), number);
+            let judged = judge_sheet(&made.sheet).map(|_| ());
+            assert_eq!(made.number, number);
+            assert_eq!(judged, Err((number, made.byte)), "{:?}", made.sheet);
+        }
+    }
+}
+
+/// How often each contract gets each answer: method and whether its price is
+/// on an exact half, or the number of its refusal.
+fn kinds_of_answers(day: &Day, kinds: &mut HashMap<(usize, String), usize>) {
+    let mut closes = [0; 6];
+    for (contract, answer) in price_day_by_spans(day).into_iter().enumerate() {
+        let kind = match answer {
+            Answer::Refused { number, .. } => format!("refused {number}"),
+            Answer::Priced { method, price, .. } => {
+                let (exact, _) = exact_price(day, contract, &closes, sum_by_spans);
+                let exact = exact.unwrap();
+                let over = 2 * exact.sum + exact.divisor * step_of(day, contract);
+                let half = over % (2 * exact.divisor * step_of(day, contract)) == 0;
+                closes[contract] = i128::from(price);
+                format!("{}{}", method.name(), if half { " half" } else { "" })
+            }
+        };
+        *kinds.entry((contract, kind)).or_default() += 1;
+    }
+}
+
+#[test]
+fn every_kind_of_answer_comes_up_for_every_contract() {
+    let mut kinds = HashMap::new();
+    for day in accepted_days(6_000) {
+        kinds_of_answers(&day, &mut kinds);
+    }
+    for contract in 0..6 {
+        let wanted = ["VWAP", "TWAP", "VWAP half", "TWAP half", "refused 13", "refused 14"];
+        for kind in wanted {
+            let count = kinds.get(&(contract, kind.to_string())).copied();
+            assert!(count.unwrap_or(0) >= 20, "{contract} {kind}: {count:?}");
+        }
+    }
+}
+
+#[test]
+fn every_metal_mark_edge_and_side_comes_up() {
+    let mut metals = [0; 6];
+    let mut marks = 0;
+    let mut edges: HashMap<(bool, i64), usize> = HashMap::new();
+    let mut sides = [0; 4];
+    for day in accepted_days(2_000) {
+        let metal = metal_row(day.metal).unwrap();
+        metals[usize::from(day.metal)] += 1;
+        marks |= day.marks;
+        for record in &day.records {
+            for (anchor, start) in [(false, metal.spread_start), (true, metal.anchor_start)] {
+                let from = i64::from(record.time()) - i64::from(start);
+                *edges.entry((anchor, from)).or_default() += 1;
+            }
+            if let Record::Quote(quote) = record {
+                sides[usize::from(quote.sides)] += 1;
+            }
+        }
+    }
+    assert!(metals[1..].iter().all(|count| *count > 200));
+    assert_eq!(marks, 0x07FF);
+    assert!(sides.iter().all(|count| *count > 200));
+    let window = i64::from(WINDOW);
+    for edge in [-1, 0, 1, window - 1, window] {
+        assert!(edges[&(false, edge)] > 100 && edges[&(true, edge)] > 100, "{edge}");
+    }
+}
+
+/// Lots of exactly 4 and 5 over more than one spread.
+#[test]
+fn split_lots_come_up() {
+    let mut split = HashMap::new();
+    for day in accepted_days(3_000) {
+        for answer in price_day_by_spans(&day) {
+            if let Answer::Priced { method, lots, .. } = answer {
+                let key = (method == Method::Vwap, lots);
+                *split.entry(key).or_insert(0) += 1;
+            }
+        }
+    }
+    assert!(split[&(true, 5)] > 300 && split[&(false, 4)] > 300 && split[&(false, 0)] > 300);
+}
+
+#[test]
+fn damaged_sheets_are_mostly_refused_and_never_panic() {
+    let mut refused = 0;
+    for item in 0..4_000 {
+        let sheet = damaged_sheet(&mut Random::for_item(8, item));
+        refused += usize::from(judge_sheet(&sheet).is_err());
+        assert!(!closing_list(&sheet).is_empty());
+    }
+    assert!(refused > 3_000, "{refused}");
+}
+
+#[test]
+fn every_refusal_from_2_to_15_is_in_the_stream() {
+    let sheets = cases(1, 2_500);
+    let lent: Vec<&[u8]> = sheets.iter().map(Vec::as_slice).collect();
+    let counts = tally(&lent);
+    assert_eq!(counts[1], 0, "1 needs more bytes than the stream allows");
+    for (number, count) in counts.iter().enumerate().skip(2) {
+        assert!(*count >= 20, "{number}: {count}");
+    }
+    assert!(counts[0] > 1_000);
+}
+
+/// Refusal 1 needs more than 1,048,576 bytes; it is made for library use only.
+#[test]
+fn refusal_1_is_made_outside_the_stream() {
+    let made = sheet_with_fault(&mut Random::new(1), 1);
+    assert!(made.sheet.len() > 1_048_576);
+    assert_eq!(judge_sheet(&made.sheet), Err((1, 0)));
+}
+
+#[test]
+fn the_stream_stays_small_and_reads_back() {
+    let sheets = cases(1, 2_000);
+    assert!(sheets.iter().all(|sheet| sheet.len() <= 65_536));
+    assert!(sheets.iter().any(|sheet| sheet.len() == 65_536));
+    let large = sheets.iter().filter(|sheet| sheet.len() >= 10_000).count();
+    assert!(large >= 3, "{large}");
+    let stream = stream_of_cases(&sheets);
+    assert!(stream.len() < 1_500_000, "{}", stream.len());
+    let read: Vec<Vec<u8>> = frames(&stream).unwrap().iter().map(|sheet| sheet.to_vec()).collect();
+    assert_eq!(read, sheets);
+    assert_eq!(frames(&stream[..3]), Err(0));
+}
+
+#[test]
+fn a_case_depends_on_its_seed_and_place_only() {
+    assert_eq!(cases(9, 700)[..600], cases(9, 600)[..]);
+    assert_ne!(cases(9, 900), cases(10, 900));
+    let first = random_sheet(&mut Random::for_item(9, 0));
+    assert!(cases(9, 900).contains(&first));
+}
+
+#[test]
+fn sized_sheets_have_their_size() {
+    assert_eq!(sized_sheet(&mut Random::new(1), 12), None);
+    let smallest = sized_sheet(&mut Random::new(1), 13).unwrap();
+    assert_eq!(smallest.len(), ended_sheet(&[header(1, 0)]).len());
+    for bytes in [200, 1_000, 65_535, 65_536, 65_537, 1_048_576] {
+        let sheet = sized_sheet(&mut Random::new(3), bytes).unwrap();
+        assert_eq!(sheet.len(), bytes);
+        assert!(judge_sheet(&sheet).is_ok());
+    }
+    let over = sized_sheet(&mut Random::new(3), 1_048_577).unwrap();
+    assert_eq!(judge_sheet(&over), Err((1, 0)));
+}
+
+/// Every cut of some random sheets: 2 at a byte that is no later than the cut.
+#[test]
+fn every_cut_of_random_sheets_is_2() {
+    for item in 0..40 {
+        let sheet = accepted_sheet(&mut Random::for_item(12, item));
+        for length in 0..sheet.len() {
+            let judged = judge_sheet(&sheet[..length]).map(|_| ());
+            assert!(matches!(judged, Err((2, byte)) if byte <= length && length - byte < 17));
+        }
+    }
+}

@@ -1,0 +1,100 @@
+//! Demand 3's two laws on random pairs, and the pairs themselves.
+
+use independent::draft::{close, ended_sheet, header, quote, trade};
+use independent::laws::{has_14, moved_alike, possible_steps, shift_sheet, turn_sheet, Pair};
+use independent::pricing::price_day_by_spans;
+use independent::stream::{shifted, turned};
+use independent::tables::metal_row;
+use independent::{judge_sheet, Answer, Day};
+
+fn day(sheet: &[u8]) -> Day {
+    judge_sheet(sheet).expect("an accepted sheet")
+}
+
+fn answers(sheet: &[u8]) -> [Answer; 6] {
+    price_day_by_spans(&day(sheet))
+}
+
+#[test]
+fn r1_close_trade_and_present_sides_are_shifted() {
+    let sheet = |up: i32| {
+        ended_sheet(&[
+            header(1, 3),
+            close(0, 1_000 + up),
+            close(1, 5),
+            quote(1, 0, 0, 0, 0),
+            quote(1, 0, 1, 900 + up, 0),
+            quote(1, 0, 2, 0, 1_100 + up),
+            quote(1, 2, 3, 7, 8),
+            trade(2, 0, 801 + up, 9),
+            trade(2, 3, 0, 1),
+        ])
+    };
+    assert_eq!(shift_sheet(&sheet(0), 3), Some(sheet(300)));
+    assert_eq!(shift_sheet(&sheet(0), -8), Some(sheet(-800)));
+    assert_eq!(shift_sheet(&sheet(0), -9), None);
+    assert_eq!(shift_sheet(&sheet(0), i64::MAX), None);
+    assert_eq!(possible_steps(&sheet(0)), Some((-8, 999_988)));
+    assert_eq!(shift_sheet(b"no sheet", 1), None);
+}
+
+#[test]
+fn r3_a_spread_is_turned_with_its_mark_and_sides() {
+    let plain = ended_sheet(&[
+        header(1, 0x0401),
+        close(1, 5),
+        close(3, -7),
+        quote(1, 3, 1, -9, 0),
+        quote(1, 3, 2, 0, 4),
+        quote(1, 3, 3, -2, 6),
+        quote(1, 3, 0, 0, 0),
+        trade(2, 3, 0, 1),
+        trade(2, 3, 9_999_999, 1),
+        trade(2, 1, 4, 1),
+    ]);
+    let turned = ended_sheet(&[
+        header(1, 0x0405),
+        close(1, 5),
+        close(3, 7),
+        quote(1, 3, 2, 0, 9),
+        quote(1, 3, 1, -4, 0),
+        quote(1, 3, 3, -6, 2),
+        quote(1, 3, 0, 0, 0),
+        trade(2, 3, 0, 1),
+        trade(2, 3, -9_999_999, 1),
+        trade(2, 1, 4, 1),
+    ]);
+    assert_eq!(turn_sheet(&plain, 3), Some(turned.clone()));
+    assert_eq!(turn_sheet(&turned, 3), Some(plain.clone()));
+    assert_eq!(turn_sheet(&plain, 0), None);
+    assert_eq!(turn_sheet(&plain, 12), None);
+}
+
+#[test]
+fn r2_the_first_law_holds() {
+    let mut compared = 0;
+    let mut moved = 0;
+    for Pair { sheet, changed, by } in shifted(4, 3_000) {
+        let step = i64::from(metal_row(day(&sheet).metal).unwrap().step);
+        assert_eq!(shift_sheet(&sheet, by), Some(changed.clone()));
+        let (before, after) = (answers(&sheet), answers(&changed));
+        if !has_14(&before) && !has_14(&after) {
+            assert!(moved_alike(&before, &after, by * step), "{sheet:?} {by}");
+            compared += 1;
+            moved += usize::from(before != after);
+        }
+    }
+    assert!(compared > 1_500 && moved > 1_200, "{compared} {moved}");
+}
+
+#[test]
+fn the_second_law_holds() {
+    let mut changed_bytes = 0;
+    for Pair { sheet, changed, by } in turned(4, 3_000) {
+        assert_eq!(turn_sheet(&sheet, by as u8), Some(changed.clone()));
+        assert_eq!(answers(&sheet), answers(&changed), "{sheet:?} {by}");
+        let differing = sheet.iter().zip(&changed).filter(|(one, other)| one != other);
+        changed_bytes += usize::from(differing.count() > 2);
+    }
+    assert!(changed_bytes > 2_000, "{changed_bytes}");
+}

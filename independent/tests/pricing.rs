@@ -1,0 +1,110 @@
+//! The arithmetic against slower words: rounding against a search, the spans
+//! against the walk, and 13 against its own sentence.
+
+use independent::generator::{accepted_sheet, sized::sized_sheet};
+use independent::indicator::{sum_by_spans, sum_by_walking};
+use independent::pricing::{price_day_by_spans, round_to_step};
+use independent::random::Random;
+use independent::sheet::Record;
+use independent::tables::{in_window, metal_row, window_start, CONTRACTS};
+use independent::{judge_sheet, price_day, Answer, Day};
+
+/// The greatest multiple m of u with 2Dm <= 2N + Du, by searching downwards.
+fn searched(sum: i128, divisor: i128, step: i128) -> i128 {
+    let mut multiple = (sum.abs() + 2 * step) / step * step;
+    while 2 * divisor * multiple > 2 * sum + divisor * step {
+        multiple -= step;
+    }
+    multiple
+}
+
+#[test]
+fn rounding_is_the_greatest_multiple() {
+    for step in [1, 2, 5, 50, 100] {
+        for divisor in [1, 2, 3, 5, 7, 10] {
+            for sum in -250..=250 {
+                let rounded = round_to_step(sum, divisor, step);
+                assert_eq!(rounded, searched(sum, divisor, step), "{sum}/{divisor} to {step}");
+            }
+        }
+    }
+}
+
+#[test]
+fn c14_negative_halves_go_up() {
+    assert_eq!(round_to_step(-1, 2, 1), 0);
+    assert_eq!(round_to_step(-3, 2, 1), -1);
+    assert_eq!(round_to_step(-75, 1, 50), -50);
+    assert_eq!(round_to_step(-76, 1, 50), -100);
+    assert_eq!(round_to_step(-25, 1, 50), 0);
+}
+
+fn random_days(count: u64) -> impl Iterator<Item = Day> {
+    (0..count).map(|item| {
+        let mut random = Random::for_item(31, item);
+        let sheet = match item % 50 {
+            49 => sized_sheet(&mut random, 4_000 + item as usize).unwrap(),
+            _ => accepted_sheet(&mut random),
+        };
+        judge_sheet(&sheet).unwrap()
+    })
+}
+
+#[test]
+fn spans_equal_the_walk_on_every_instrument() {
+    for day in random_days(400) {
+        let metal = metal_row(day.metal).unwrap();
+        for instrument in 0..12 {
+            let start = window_start(metal, instrument);
+            let walked = sum_by_walking(&day, instrument, start);
+            assert_eq!(sum_by_spans(&day, instrument, start), walked);
+        }
+    }
+}
+
+#[test]
+fn both_ways_give_the_same_answers() {
+    for day in random_days(600) {
+        assert_eq!(price_day(&day), price_day_by_spans(&day));
+    }
+}
+
+/// The trades of a day.
+fn trades(day: &Day) -> impl Iterator<Item = (u32, u8, u64)> + '_ {
+    day.records.iter().filter_map(|record| match record {
+        Record::Trade(trade) => Some((trade.time, trade.instrument, u64::from(trade.lots))),
+        Record::Quote(_) => None,
+    })
+}
+
+/// Document 01's words for 13, and the contract's lots.
+fn words_of_13(day: &Day, contract: usize) -> (bool, u64) {
+    let row = &CONTRACTS[contract];
+    let metal = metal_row(day.metal).unwrap();
+    let start = window_start(metal, row.twap_from);
+    let lots = trades(day)
+        .filter(|(time, instrument, _)| row.vwap_from.contains(instrument) && in_window(start, *time))
+        .map(|(_, _, lots)| lots)
+        .sum();
+    let no_close = day.previous_close(row.twap_from).is_none();
+    let early = |(time, instrument, _)| instrument == row.twap_from && time <= start;
+    (lots < 5 && no_close && !trades(day).any(early), lots)
+}
+
+#[test]
+fn c1_to_c4_refusals_and_lots_follow_their_words() {
+    for day in random_days(3_000) {
+        let mut stopped = false;
+        for (contract, answer) in price_day_by_spans(&day).into_iter().enumerate() {
+            let (is_13, in_all) = words_of_13(&day, contract);
+            match answer {
+                Answer::Refused { number: 15, lots } => assert!(stopped && lots == 0),
+                Answer::Refused { number, lots } => {
+                    assert!(!stopped && lots == in_all && (number == 13) == is_13);
+                    stopped = true;
+                }
+                Answer::Priced { lots, .. } => assert!(!stopped && !is_13 && lots == in_all),
+            }
+        }
+    }
+}
