@@ -3,7 +3,9 @@ use Prim.Native.Nat.{ℕ, zero, suc, _+_, _-_}
 use mathlib.Core.Bool.{Bool, true, false}
 use mathlib.Core.List.{List, [], _∷_, _++_}
 use lib.ListN.{length}
+use lib.Dec.{eqb}
 use Rattle.field.specs.declared.Field.{Field}
+use Rattle.field.specs.declared.Field.the-variants.{Header, PreviousClose, Trade, Quote, End}
 use Rattle.field.specs.Layout.{fieldBytes}
 use Rattle.field.specs.Said.{Said, gives, refuses}
 use Rattle.field.specs.Reading.{shapeAt}
@@ -54,6 +56,14 @@ counted test f = oneIf (test f)
 
 abbrev pub countOver : (Field → Bool) → List Field → ℕ
 countOver test fs = sumOver (counted test) fs
+
+-- the field is a trade on the instrument
+abbrev pub tradeOn : ℕ → Field → Bool
+tradeOn i (Header metal marks) = false
+tradeOn i (PreviousClose instrument price) = false
+tradeOn i (Trade time instrument price lots) = eqb instrument i
+tradeOn i (Quote time instrument sides bid offer) = false
+tradeOn i (End count) = false
 
 -- a state that each field changes
 unfoldable pub runOver : {A : Type 0} → (A → Field → A) → A → List Field → A

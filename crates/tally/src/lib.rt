@@ -1,7 +1,6 @@
 // How many trades an instrument has in a sheet: the smallest pass over a sheet's bytes, by the laws that every pass shares.
 ghost use mathlib.Core.Path.{_≡_};
-ghost use Rattle.sheet.specs.Fields.{fieldsOf, countOver};
-ghost use Rattle.tally.specs.Tally.{tradeOn};
+ghost use Rattle.sheet.specs.Fields.{fieldsOf, countOver, tradeOn};
 use field::Field;
 use field::Read;
 use reader::shape_at;

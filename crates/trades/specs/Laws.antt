@@ -31,7 +31,7 @@ use Rattle.market.specs.Market.{startOf, inWindow}
 use Rattle.market.specs.Rules.{p11, p12}
 use Rattle.sheet.specs.declared.Day.{Day}
 use Rattle.sheet.specs.declared.Judged.{Judged}
-use Rattle.sheet.specs.Fields.{fieldsAt, fieldsOf, Each}
+use Rattle.sheet.specs.Fields.{fieldsAt, fieldsOf, Each, tradeOn}
 use Rattle.sheet.specs.Judgement.{accepts, judgeSheet, judged-once}
 use Rattle.sheet.specs.Walk.{shape-grows, fields-gave, fields-stop, walk-ind}
 use Rattle.sheet.specs.Accepted.{accepted-sound, accepted-small}
@@ -107,14 +107,6 @@ pub p12-trade : (price : Price) (lots : ℕ) → tradeIn 1 1 (Trade 58500000 1 p
 p12-trade price lots = trade-outside 1 1 58500000 1 price lots p12
 
 -- ---- a total goes by its own instrument's trades alone
-
--- the field is a trade on the instrument
-abbrev pub tradeOn : ℕ → Field → Bool
-tradeOn i (Header m marks) = false
-tradeOn i (PreviousClose instrument price) = false
-tradeOn i (Trade time instrument price lots) = eqb instrument i
-tradeOn i (Quote time instrument sides bid offer) = false
-tradeOn i (End count) = false
 
 -- the trades on the instrument, and no other field
 unfoldable pub own : ℕ → List Field → List Field

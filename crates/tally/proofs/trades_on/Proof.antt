@@ -1,7 +1,7 @@
 -- `tally::trades_on` meets its contract, by the laws of a counting pass. Assumes nothing.
 use Rattle.sheet.specs.Walk.{left}
 use Rattle.sheet.specs.Passes.{Counting, counting}
-use Rattle.tally.specs.Tally.{tradeOn}
+use Rattle.sheet.specs.Fields.{tradeOn}
 use Rattle.tally.proofs.trades_on.Statement.{statement}
 use Rattle.tally.proofs.trades_on.Tie as tie
 
