@@ -1,0 +1,4 @@
+pub mod Parts
+pub mod Puts
+pub mod Begins
+pub mod Once
