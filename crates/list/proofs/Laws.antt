@@ -1,0 +1,100 @@
+-- A contract's line item by item, the names that there are not, and how long a list can be. Assumes nothing.
+use Prim.Native.Nat.{ℕ, zero, suc, _≤_, _<_}
+use mathlib.Core.Path.{_≡_, refl}
+use mathlib.Core.List.{List, [], _∷_, _++_}
+use native.Mathlib.Omega.{arith}
+use lib.ListN.{length, length-append}
+use borrow.Author.Tests.{le-leb, lt-leb}
+use Rattle.text.specs.Decimal.{decimal, decimal-length}
+use Rattle.closing.specs.declared.Method.{Method}
+use Rattle.closing.specs.declared.Method.the-variants.{Vwap, Twap}
+use Rattle.closing.specs.declared.Closed.{Closed}
+use Rattle.closing.specs.declared.Closed.the-variants as C
+use Rattle.closing.specs.Closing.{Told, close, refused, answersOf}
+use Rattle.closing.specs.Says.{answerSays, closedSays}
+use Rattle.list.specs.Names.{metalName, contractName, methodName, tooLong}
+use Rattle.list.specs.Listing.{space, line, answerItems, answerLine, answerLines, listText, listOf}
+
+-- ---- names that there are not
+
+-- as the arm of a `match` for all other numbers has it
+pub metal-none : (m : ℕ) → (((((Unit {0} × (m ≡ 1 → ⊥)) × (m ≡ 2 → ⊥)) × (m ≡ 3 → ⊥)) × (m ≡ 4 → ⊥)) × (m ≡ 5 → ⊥)) → [] ≡ metalName m
+unfolding metalName
+metal-none zero h = refl
+metal-none (suc zero) h = absurd (h .0 .0 .0 .0 .1 refl)
+metal-none (suc (suc zero)) h = absurd (h .0 .0 .0 .1 refl)
+metal-none (suc (suc (suc zero))) h = absurd (h .0 .0 .1 refl)
+metal-none (suc (suc (suc (suc zero)))) h = absurd (h .0 .1 refl)
+metal-none (suc (suc (suc (suc (suc zero))))) h = absurd (h .1 refl)
+metal-none (suc (suc (suc (suc (suc (suc m)))))) h = refl
+
+pub contract-none : (c : ℕ) → ((((((Unit {0} × (c ≡ 0 → ⊥)) × (c ≡ 1 → ⊥)) × (c ≡ 2 → ⊥)) × (c ≡ 3 → ⊥)) × (c ≡ 4 → ⊥)) × (c ≡ 5 → ⊥)) → [] ≡ contractName c
+unfolding contractName
+contract-none zero h = absurd (h .0 .0 .0 .0 .0 .1 refl)
+contract-none (suc zero) h = absurd (h .0 .0 .0 .0 .1 refl)
+contract-none (suc (suc zero)) h = absurd (h .0 .0 .0 .1 refl)
+contract-none (suc (suc (suc zero))) h = absurd (h .0 .0 .1 refl)
+contract-none (suc (suc (suc (suc zero)))) h = absurd (h .0 .1 refl)
+contract-none (suc (suc (suc (suc (suc zero))))) h = absurd (h .1 refl)
+contract-none (suc (suc (suc (suc (suc (suc c)))))) h = refl
+
+-- ---- lines
+
+-- the contract, and behind a space its answer
+pub answer-line : (c : ℕ) (t : Told) → answerLine c t ≡ contractName c ++ space ∷ line (answerItems t)
+unfolding answerLine
+answer-line c (close method cents lots) = refl
+answer-line c (refused number lots) = refl
+
+-- a sheet that is listed, and one that is too long
+pub listed : (s : List ℕ) → length s ≤ 65536 → listOf s ≡ listText (answersOf s)
+unfolding listOf
+listed s h = simp (le-leb (length s) 65536 h)
+
+pub too-long : (s : List ℕ) → 65536 < length s → listOf s ≡ line (tooLong ∷ [])
+unfolding listOf
+too-long s h = simp (lt-leb (length s) 65536 h)
+
+-- ---- lengths
+
+metal-length : (m : ℕ) → length (metalName m) ≤ 9
+unfolding metalName
+metal-length zero = omega arith
+metal-length (suc zero) = omega arith
+metal-length (suc (suc zero)) = omega arith
+metal-length (suc (suc (suc zero))) = omega arith
+metal-length (suc (suc (suc (suc zero)))) = omega arith
+metal-length (suc (suc (suc (suc (suc zero))))) = omega arith
+metal-length (suc (suc (suc (suc (suc (suc m)))))) = omega arith
+
+contract-length : (c : ℕ) → length (contractName c) ≤ 4
+unfolding contractName
+contract-length zero = omega arith
+contract-length (suc zero) = omega arith
+contract-length (suc (suc zero)) = omega arith
+contract-length (suc (suc (suc zero))) = omega arith
+contract-length (suc (suc (suc (suc zero)))) = omega arith
+contract-length (suc (suc (suc (suc (suc zero))))) = omega arith
+contract-length (suc (suc (suc (suc (suc (suc c)))))) = omega arith
+
+two-length : (a b : ℕ) → length (line (decimal a ∷ decimal b ∷ [])) ≤ 42
+two-length a b = simp length-append (omega (arith, decimal-length 20 a, decimal-length 20 b))
+
+method-length : (m : Method) → length (methodName m) ≤ 4
+method-length Vwap = omega arith
+method-length Twap = omega arith
+
+answer-length : (t : Told) → length (line (answerItems t)) ≤ 50
+answer-length (close method cents lots) = simp length-append (omega (arith, method-length method, decimal-length 20 cents, decimal-length 20 lots))
+answer-length (refused number lots) = omega (arith, two-length number lots)
+
+line-length : (c : ℕ) (t : Told) → length (answerLine c t) ≤ 55
+line-length c t = simp (answer-line, length-append) (omega (arith, contract-length c, answer-length t))
+
+-- every list fits a text
+pub list-length : (r : Closed) → length (listText (closedSays r)) ≤ 512
+unfolding listText answerLines
+list-length (C.Six day k) =
+    simp length-append
+    (omega (arith, metal-length (day .metal), line-length 0 (answerSays (k .three)), line-length 1 (answerSays (k .m3)), line-length 2 (answerSays (k .m2)), line-length 3 (answerSays (k .m4)), line-length 4 (answerSays (k .m1)), line-length 5 (answerSays (k .cash))))
+list-length (C.Refused number at) = omega (arith, two-length number at)
