@@ -10,9 +10,9 @@ use Rattle.closing.specs.Closing.{close, refused, six, none-priced}
 use Rattle.list.specs.Names.{metalName, contractName}
 use Rattle.list.specs.Listing.{listText, answerLine, answerLines}
 
--- its header: metal 1, no mark; 10 fields before the end
+-- its header: metal 1, no mark; 11 fields with the end
 abbrev nickel : Day
-nickel = record { metal = 1; marks = 0; fields = 10 }
+nickel = record { metal = 1; marks = 0; fields = 11 }
 
 -- its answers as they are printed
 pub nickel-list :
