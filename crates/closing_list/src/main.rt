@@ -4,7 +4,7 @@ use libc::STDOUT_FILENO;
 use list::closing_list;
 use text::Put;
 
-// Prints the list of a sheet. 512 bytes hold every list.
+// Prints the list of a sheet. 512 bytes hold every list (the law `list-fits`).
 fn print_list(sheet: &[u8]) {
     let mut out = [0u8; 512];
     match closing_list(sheet, &mut out) {

@@ -3,7 +3,7 @@ use mathlib.Core.Path.{sym, ap, _∙_}
 use borrow.Author.Needs.{needs}
 use Rattle.text.specs.Held.{held, _⊕_}
 use Rattle.list.specs.Names.{contractName}
-use Rattle.list.proofs.Laws.{contract-none}
+use Rattle.list.specs.Laws.{contract-none}
 use Rattle.list.proofs.put_contract.Statement.{statement}
 use Rattle.list.proofs.put_contract.Tie as tie
 

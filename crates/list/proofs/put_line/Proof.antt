@@ -2,7 +2,7 @@
 use mathlib.Core.List.{append-assoc}
 use borrow.Author.Needs.{needs}
 use Rattle.text.specs.Held.{⊕-⊕}
-use Rattle.list.proofs.Laws.{answer-line}
+use Rattle.list.specs.Laws.{answer-line}
 use Rattle.list.proofs.put_line.Statement.{statement}
 use Rattle.list.proofs.put_line.Tie as tie
 

@@ -3,7 +3,7 @@ use mathlib.Core.Path.{sym, ap, _∙_}
 use borrow.Author.Needs.{needs}
 use Rattle.text.specs.Held.{held, _⊕_}
 use Rattle.list.specs.Names.{metalName}
-use Rattle.list.proofs.Laws.{metal-none}
+use Rattle.list.specs.Laws.{metal-none}
 use Rattle.list.proofs.put_metal.Statement.{statement}
 use Rattle.list.proofs.put_metal.Tie as tie
 

@@ -1,8 +1,9 @@
--- A contract's line item by item, the names that there are not, and how long a list can be. Assumes nothing.
+-- A contract's line item by item, the numbers that have no name, and how long a list can be. Assumes nothing.
 use Prim.Native.Nat.{ℕ, zero, suc, _≤_, _<_}
 use mathlib.Core.Path.{_≡_, refl}
 use mathlib.Core.List.{List, [], _∷_, _++_}
 use native.Mathlib.Omega.{arith}
+use native.Mathlib.Decide.{decLe}
 use lib.ListN.{length, length-append}
 use borrow.Author.Tests.{le-leb, lt-leb}
 use Rattle.text.specs.Decimal.{decimal, decimal-length}
@@ -10,14 +11,17 @@ use Rattle.closing.specs.declared.Method.{Method}
 use Rattle.closing.specs.declared.Method.the-variants.{Vwap, Twap}
 use Rattle.closing.specs.declared.Closed.{Closed}
 use Rattle.closing.specs.declared.Closed.the-variants as C
-use Rattle.closing.specs.Closing.{Told, close, refused, answersOf}
+use Rattle.field.specs.declared.Field.{Field}
+use Rattle.sheet.specs.declared.Day.{Day}
+use Rattle.sheet.specs.Fields.{fieldsOf}
+use Rattle.sheet.specs.Judgement.{Verdict, accepts, refuses-at, judgeSheet}
+use Rattle.closing.specs.Closing.{Told, close, refused, six, none-priced, figuresOf, answerOf, closingsOf, answersBy, answersOf}
 use Rattle.closing.specs.Says.{answerSays, closedSays}
 use Rattle.list.specs.Names.{metalName, contractName, methodName, tooLong}
 use Rattle.list.specs.Listing.{space, line, answerItems, answerLine, answerLines, listText, listOf}
 
--- ---- names that there are not
+-- ---- numbers that have no name, as the last arm of a `match` says that a number is none of the others
 
--- as the arm of a `match` for all other numbers has it
 pub metal-none : (m : ℕ) → (((((Unit {0} × (m ≡ 1 → ⊥)) × (m ≡ 2 → ⊥)) × (m ≡ 3 → ⊥)) × (m ≡ 4 → ⊥)) × (m ≡ 5 → ⊥)) → [] ≡ metalName m
 unfolding metalName
 metal-none zero h = refl
@@ -91,10 +95,34 @@ answer-length (refused number lots) = omega (arith, two-length number lots)
 line-length : (c : ℕ) (t : Told) → length (answerLine c t) ≤ 55
 line-length c t = simp (answer-line, length-append) (omega (arith, contract-length c, answer-length t))
 
--- every list fits a text
-pub list-length : (r : Closed) → length (listText (closedSays r)) ≤ 512
+-- the metal's name and six lines
+six-length : (day : Day) (a b c d e f : Told) → length (listText (six day (a ∷ b ∷ c ∷ d ∷ e ∷ f ∷ []))) ≤ 512
 unfolding listText answerLines
-list-length (C.Six day k) =
+six-length day a b c d e f =
     simp length-append
-    (omega (arith, metal-length (day .metal), line-length 0 (answerSays (k .three)), line-length 1 (answerSays (k .m3)), line-length 2 (answerSays (k .m2)), line-length 3 (answerSays (k .m4)), line-length 4 (answerSays (k .m1)), line-length 5 (answerSays (k .cash))))
-list-length (C.Refused number at) = omega (arith, two-length number at)
+    (omega (arith, metal-length (day .metal), line-length 0 a, line-length 1 b, line-length 2 c, line-length 3 d, line-length 4 e, line-length 5 f))
+
+one-length : (number at : ℕ) → length (listText (none-priced number at)) ≤ 512
+unfolding listText
+one-length number at = omega (arith, two-length number at)
+
+-- the answers of the code, and those of a sheet
+pub list-length : (r : Closed) → length (listText (closedSays r)) ≤ 512
+list-length (C.Six day k) = six-length day (answerSays (k .three)) (answerSays (k .m3)) (answerSays (k .m2)) (answerSays (k .m4)) (answerSays (k .m1)) (answerSays (k .cash))
+list-length (C.Refused number at) = one-length number at
+
+answers-length : (fs : List Field) (v : Verdict) → length (listText (answersBy fs v)) ≤ 512
+unfolding closingsOf
+answers-length fs (accepts day) =
+    let told = answerOf (figuresOf (day .metal) (day .marks) fs) in
+    six-length day (told 0) (told 1) (told 2) (told 3) (told 4) (told 5)
+answers-length fs (refuses-at number at) = one-length number at
+
+sheet-length : (s : List ℕ) → Dec (length s ≤ 65536) → length (listOf s) ≤ 512
+unfolding answersOf
+sheet-length s (yes h) = rw (listed s h) (answers-length (fieldsOf s) (judgeSheet s))
+sheet-length s (no h) = rw (too-long s (omega arith)) (omega arith)
+
+-- a buffer of 512 bytes holds every list
+pub list-fits : (s : List ℕ) → length (listOf s) ≤ 512
+list-fits s = sheet-length s (decLe (length s) 65536)
