@@ -147,7 +147,8 @@ after-changed i start g G keeps along none t fs =
 one-of : (i j instrument : ℕ) → (j ≡ i → ⊥) → eqb instrument i ≡ true → eqb instrument j ≡ false
 one-of i j instrument differs e = ne-eqb instrument j (λ h. differs (sym h ∙ eqb-true instrument i e))
 
-not-both : (i j : ℕ) (f : Field) → (j ≡ i → ⊥) → concerns i f ≡ true → concerns j f ≡ false
+-- a field is of one instrument
+pub not-both : (i j : ℕ) (f : Field) → (j ≡ i → ⊥) → concerns i f ≡ true → concerns j f ≡ false
 not-both i j (Header metal marks) d e = refl
 not-both i j (PreviousClose instrument price) d e = one-of i j instrument d e
 not-both i j (Trade time instrument price lots) d e = one-of i j instrument d e

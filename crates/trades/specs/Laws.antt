@@ -265,7 +265,7 @@ module _ (metal i : ℕ) (s : List ℕ) where
 -- ---- an instrument's place among the totals
 
 -- what stands at a place of a list by numbers
-numbered : {A : Type 0} (f : ℕ → A) (first n k : ℕ) (d : A) → k < n → getD (map f (numbers first n)) k d ≡ f (first + k)
+pub numbered : {A : Type 0} (f : ℕ → A) (first n k : ℕ) (d : A) → k < n → getD (map f (numbers first n)) k d ≡ f (first + k)
 numbered f first zero k d h = absurd (omega arith)
 numbered f first (suc n) zero d h = ap f (omega arith)
 numbered f first (suc n) (suc k) d h = numbered f (suc first) n k d (omega arith) ∙ ap f (omega arith)
