@@ -1,0 +1,5 @@
+pub mod Held
+pub mod Calls
+pub mod Thin
+pub mod Clauses
+pub mod Once
