@@ -1,14 +1,16 @@
 // Reads and writes single fields at places that no whole sheet asks for, and prints what is said of each: the reader's answer with the length of
-// the body, the writer's with the bytes that it leaves.
+// the body, the writer's with the bytes that it leaves. Then goes through sheets field by field, and prints the walker's place before each answer.
 ghost use mathlib.Core.Path.{_≡_};
 ghost use lib.ListN.{length};
 use field::Field;
 use field::Price;
 use field::Read;
 use field::Written;
+use libc::STDIN_FILENO;
 use libc::STDOUT_FILENO;
 use reader::field_body;
 use reader::read_field;
+use walker::turn_at;
 use writer::write_field;
 
 // A line of its own.
@@ -30,15 +32,20 @@ fn print_refused(number: u8, at: usize) {
     print_number(at as u64);
 }
 
-// The place behind a field, or the refusal; then the length of the body.
-fn show_read(sheet: &[u8], at: usize) {
-    match read_field(sheet, at) {
+// The place behind a field, or the refusal.
+fn print_read(read: Read) {
+    match read {
         Read::Field(_, next) => {
             io::write_all(STDOUT_FILENO, b"field");
             print_number(next as u64);
         }
         Read::Refused(number, place) => print_refused(number, place),
     }
+}
+
+// What the reader says, then the length of the body.
+fn show_read(sheet: &[u8], at: usize) {
+    print_read(read_field(sheet, at));
     let body = field_body(sheet, at);
     print_number(body.len() as u64);
     say(b"");
@@ -145,8 +152,67 @@ fn writes() {
     show_write(0, end);
 }
 
+// A walker's place, what it sees there, and the length of the body. The place that a step leads to.
+fn show_turn(sheet: &[u8], at: usize) -> usize {
+    let turn = turn_at(sheet, at);
+    io::print_decimal(STDOUT_FILENO, at as u64);
+    io::write_all(STDOUT_FILENO, b": ");
+    let read = turn.read;
+    print_read(read);
+    print_number(turn.length as u64);
+    say(b"");
+    turn.next
+}
+
+// Some turns of a walk, from a place on.
+fn show_walk(sheet: &[u8], from: usize, turns: usize) {
+    let mut at = from;
+    for turn in 0..turns {
+        at = show_turn(sheet, at);
+    }
+}
+
+// The same over a sheet's first bytes.
+fn show_torn(sheet: &[u8], length: usize, from: usize, turns: usize) {
+    if length <= sheet.len() {
+        show_walk(&sheet[..length], from, turns);
+    }
+}
+
+// Document 01's Nickel sheet of 130 bytes, which is the program's input: whole and torn.
+fn nickel_walks() {
+    let mut room = io::buffer();
+    let length = io::read_full(STDIN_FILENO, &mut room);
+    let sheet = &room[..length];
+    say(b"# F-8 the eleven fields of the Nickel sheet, then its end");
+    show_walk(sheet, 0, 13);
+    say(b"# A12 torn in a body and in a head: it stays, and sees the same again");
+    show_torn(sheet, 100, 78, 3);
+    show_torn(sheet, 97, 95, 2);
+    say(b"# F-8 from a place that a host kept; from a place inside a field");
+    show_walk(sheet, 109, 2);
+    show_walk(sheet, 1, 2);
+}
+
+// Where no whole sheet leads a walker.
+fn other_walks() {
+    let end_first = [5u8, 0, 4, 0, 0, 0, 0, 1, 0, 3, 1, 0, 0];
+    say(b"# A12 it walks on behind an end field, and at the sheet's end it stays");
+    show_walk(&end_first, 0, 4);
+    say(b"# A12 past the end, and at the last place of all");
+    show_walk(&end_first, 14, 2);
+    show_walk(&end_first, 18_446_744_073_709_551_615, 2);
+    say(b"# A12 a whole field that is refused, and a tag that is none");
+    let nine = [1u8, 0, 3, 9, 0, 0];
+    show_walk(&nine, 0, 2);
+    let six = [6u8, 0, 3, 1, 0, 0];
+    show_walk(&six, 0, 2);
+}
+
 fn main() {
     reads();
     far();
     writes();
+    nickel_walks();
+    other_walks();
 }
