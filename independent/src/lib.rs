@@ -12,11 +12,13 @@
 //! * [`generator`] random sheets, accepted and damaged
 //! * [`named`]     hand-made sheets with hand-written answers
 //! * [`laws`]      shifted and turned sheets
+//! * [`holds`]     do printed lists of such sheets obey the laws
 //! * [`stream`]    many sheets in one stream, and the answers to them
 
 pub mod draft;
 pub mod field;
 pub mod generator;
+pub mod holds;
 pub mod indicator;
 pub mod laws;
 pub mod list;

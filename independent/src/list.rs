@@ -5,7 +5,8 @@ use crate::pricing::{price_day, price_day_by_spans, Answer};
 use crate::sheet::{judge_sheet, Day};
 use crate::tables::{metal_row, CONTRACTS, LIST_LIMIT};
 
-fn contract_line(name: &str, answer: &Answer) -> String {
+/// A contract's line.
+pub fn contract_line(name: &str, answer: &Answer) -> String {
     match answer {
         Answer::Priced { method, price, lots } => format!("{name} {} {price} {lots}\n", method.name()),
         Answer::Refused { number, lots } => format!("{name} refused {number} {lots}\n"),

@@ -1,6 +1,7 @@
 //! The commands: a closing list, streams of cases, and the answers to them.
 
 use independent::generator::sized::sized_sheet;
+use independent::holds::{all_hold, shift_holds, turn_holds, Law};
 use independent::laws::Pair;
 use independent::list::closing_list;
 use independent::named::named_cases;
@@ -22,6 +23,9 @@ const USAGE: &str = "usage:
   independent shifts SEED COUNT         by how many steps each pair is shifted
   independent turned SEED COUNT         a stream of pairs, one spread turned
   independent turns SEED COUNT          which spread each pair has turned
+  independent shift-holds SEED COUNT < ANSWERS  does another's answer to that
+                                        stream obey the first law
+  independent turn-holds SEED COUNT < ANSWERS   and the second
   independent sized SEED BYTES          one accepted sheet of so many bytes
 ";
 
@@ -55,7 +59,7 @@ fn run(words: &[&str]) -> Result<Vec<u8>, String> {
     }
 }
 
-/// The commands that make sheets from a seed.
+/// The commands that make sheets from a seed, and those that look at answers to them.
 fn make(command: &str, seed: u64, count: usize) -> Result<Vec<u8>, String> {
     match command {
         "cases" => Ok(stream::stream_of_cases(&stream::cases(seed, count))),
@@ -63,11 +67,22 @@ fn make(command: &str, seed: u64, count: usize) -> Result<Vec<u8>, String> {
         "shifts" => Ok(numbers(&stream::shifted(seed, count))),
         "turned" => Ok(stream::stream_of_pairs(&stream::turned(seed, count))),
         "turns" => Ok(numbers(&stream::turned(seed, count))),
+        "shift-holds" => held(shift_holds, &stream::shifted(seed, count)),
+        "turn-holds" => held(turn_holds, &stream::turned(seed, count)),
         "sized" => {
             sized_sheet(&mut Random::new(seed), count).ok_or_else(|| format!("no fields fill {count} bytes"))
         }
         _ => Err(USAGE.to_string()),
     }
+}
+
+/// The answers on standard input under a law, by what each pair was changed by.
+fn held(law: Law, pairs: &[Pair]) -> Result<Vec<u8>, String> {
+    let mut answers = String::new();
+    let read = io::stdin().read_to_string(&mut answers);
+    read.map_err(|error| error.to_string())?;
+    let numbers: Vec<i64> = pairs.iter().map(|pair| pair.by).collect();
+    all_hold(law, &numbers, &answers).map(String::into_bytes)
 }
 
 /// The commands that read a stream.

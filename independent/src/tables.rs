@@ -24,7 +24,7 @@ pub const LAST_INSTRUMENT: u8 = 11;
 pub const ALL_MARKS: u16 = 0x07FF;
 
 /// One row of the table of metals.
-#[derive(Debug)]
+#[derive(Debug, PartialEq)]
 pub struct Metal {
     pub name: &'static str,
     pub spread_start: u32,
