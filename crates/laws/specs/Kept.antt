@@ -1,6 +1,7 @@
 -- A sheet stays accepted where the prices of one instrument change and stay right, and the header's marks do.
 --     Right            a change of a field's prices that leaves them right
 --     chain-changed    such fields lead to the end as before
+--     right-changed    a change that keeps an instrument's prices in their ranges is one
 --     changed-accepted the sheet of such fields is accepted, and its fields are those
 -- Assumes nothing.
 use Prim.Native.Nat.{ℕ, _+_, _≤_}
@@ -8,17 +9,17 @@ use mathlib.Core.Path.{_≡_, refl, sym, ap, ap₂, subst, _∙_}
 use mathlib.Core.Bool.{Bool, true, false, cond}
 use mathlib.Core.List.{List, [], _∷_, map}
 use native.Mathlib.Omega.{arith}
-use borrow.Author.Tests.{lt-ltb}
-use lib.Dec.{ltb}
+use borrow.Author.Tests.{lt-ltb, eqb-true}
+use lib.Dec.{ltb, eqb}
 use lib.ListN.{length, length-append}
 use Rattle.wire.specs.Big.{Bytes}
 use Rattle.field.specs.declared.Price.{Price}
 use Rattle.field.specs.declared.Field.{Field}
 use Rattle.field.specs.declared.Field.the-variants.{Header, PreviousClose, Trade, Quote, End}
-use Rattle.field.specs.Judging.{fine, headerRight, judge}
+use Rattle.field.specs.Judging.{fine, headerRight, priceRight, judge}
 use Rattle.field.specs.Layout.{tagOf, sizeOf}
 use Rattle.field.specs.Laws.{clash, unless-passed, body-length}
-use Rattle.field.specs.Sound.{judge-sound}
+use Rattle.field.specs.Sound.{Sound, SoundQuote, sound, judge-sound}
 use Rattle.admit.specs.declared.Progress.{Progress}
 use Rattle.admit.specs.Admitting.{start, previousPlaced, placed, countNumber, admitNumber, Step, goes, ends, stops, admitted, admit, afterHeader}
 use Rattle.admit.specs.Laws.{Passed, went, ended, kept, later-not-header, header-kept, end-is, admit-fine}
@@ -152,6 +153,37 @@ module _ (i : ℕ) (r : Price → Price) (q : ℕ → Price → Price → Sides)
   header-same : (metal marks m : ℕ) (rest : List Field) → length (encode (Header metal m ∷ map change rest)) ≡ length (encode (Header metal marks ∷ rest))
   unfolding tagOf
   header-same metal marks m rest = field-more (Header metal m) (map change rest) ∙ ap (λ (n : ℕ). sizeOf 1 + n) (bytes-same rest) ∙ sym (field-more (Header metal marks) rest)
+
+-- ---- values that stay right
+
+-- the change leaves right what is right of instrument i; Ok says what else has to hold of a field
+module _ (i : ℕ) (r : Price → Price) (q : ℕ → Price → Price → Sides) (Ok : Field → Type 0)
+    (close : (price : Price) → Ok (PreviousClose i price) → priceRight i price ≡ true → priceRight i (r price) ≡ true)
+    (trade : (time : ℕ) (price : Price) (lots : ℕ) → Ok (Trade time i price lots) → priceRight i price ≡ true → priceRight i (r price) ≡ true)
+    (quote : (least time sides : ℕ) (bid offer : Price) → Ok (Quote time i sides bid offer) → SoundQuote least time i sides bid offer
+    → SoundQuote least time i (q sides bid offer .sides) (q sides bid offer .bid) (q sides bid offer .offer)) where
+  sound-changed : (least : ℕ) (f : Field) → Ok f → Sound least f → Sound least (changed i (repriced r q) f)
+  sound-changed least (Header metal marks) ok h = h
+  sound-changed least (PreviousClose instrument price) ok h = by-test (eqb instrument i) refl
+    where
+      by-test : (b : Bool) → eqb instrument i ≡ b → Sound least (cond b (PreviousClose instrument (r price)) (PreviousClose instrument price))
+      by-test true e = let z = eqb-true instrument i e in (h .0, rw z (close price (rw z at ok) (rw z at (h .1))))
+      by-test false e = h
+  sound-changed least (Trade time instrument price lots) ok h = by-test (eqb instrument i) refl
+    where
+      by-test : (b : Bool) → eqb instrument i ≡ b → Sound least (cond b (Trade time instrument (r price) lots) (Trade time instrument price lots))
+      by-test true e = let z = eqb-true instrument i e in record { stamp = h .stamp; price-in = rw z (trade time price lots (rw z at ok) (rw z at (h .price-in))); some = h .some; most = h .most }
+      by-test false e = h
+  sound-changed least (Quote time instrument sides bid offer) ok h = by-test (eqb instrument i) refl
+    where
+      by-test : (b : Bool) → eqb instrument i ≡ b → Sound least (cond b (repriced r q (Quote time instrument sides bid offer)) (Quote time instrument sides bid offer))
+      by-test true e = let z = eqb-true instrument i e in rw z (quote least time sides bid offer (rw z at ok) (rw z at h))
+      by-test false e = h
+  sound-changed least (End count) ok h = tt
+
+  pub right-changed : (fs : List Field) → Each Ok fs → Each (Right i r q) fs
+  right-changed [] h = tt
+  right-changed (f ∷ fs) h = ((λ least e. judge-sound least (changed i (repriced r q) f) (sound-changed least f (h .0) (sound least f e))), right-changed fs (h .1))
 
 -- ---- a sheet
 

@@ -9,17 +9,14 @@ use mathlib.Core.Bool.{Bool, true, false, cond}
 use mathlib.Core.List.{List, [], _∷_, map}
 use native.Mathlib.Nat.{add-mul, mul-add}
 use native.Mathlib.Omega.{arith}
-use borrow.Author.Tests.{eqb-true}
-use lib.Dec.{eqb}
 use lib.IntN.{ℤ, pos, _+ℤ_, _*ℤ_}
 use lib.Signed.{leZ, leZ-yes}
 use Rattle.cents.specs.Whole.{up, down, is, is-+, is-*, is-pos, show-≡, show-≤, read-≤}
 use Rattle.field.specs.declared.Price.{Price}
 use Rattle.field.specs.declared.Field.{Field}
-use Rattle.field.specs.declared.Field.the-variants.{Header, PreviousClose, Trade, Quote, End}
 use Rattle.field.specs.Judging.{both, pick, ifPresent, ifAbsent, centsWithin, headerRight, priceRight, hasBid, hasOffer, sidePricesRight}
 use Rattle.field.specs.Laws.{both-true, both-holds, within-true}
-use Rattle.field.specs.Sound.{Sound, SoundQuote, sound, judge-sound}
+use Rattle.field.specs.Sound.{Sound, SoundQuote}
 use Rattle.market.specs.Market.{startOf, stepOf, 3M}
 use Rattle.market.specs.Rules.{step-some}
 use Rattle.sheet.specs.declared.Day.{Day}
@@ -29,11 +26,11 @@ use Rattle.sheet.specs.Accepted.{accepted-header, accepted-sound}
 use Rattle.trades.specs.Trades.{Deal, tradesIn, lotsIn, valueIn}
 use Rattle.trades.specs.Laws.{numbered}
 use Rattle.indicator.specs.Indicator.{twapSum, hasReference}
-use Rattle.indicator.specs.Moved.{shiftPrice, shiftSides, shiftField, shifted-reference, shifted}
+use Rattle.indicator.specs.Moved.{shiftPrice, shiftSides, shifted-reference, shifted}
 use Rattle.twap.specs.Span.{missing, sum, spanOf}
 use Rattle.closing.specs.Closing.{Figures, figuresOf, refused, answerOf, closingsOf, six, answersBy, answersOf}
 use Rattle.laws.specs.Demand.{steps, liftedField, lifted, Liftable, Moved, InRange, answerAt, Moves, Lifts, ShiftLaw}
-use Rattle.laws.specs.Kept.{Right, changedFields, changed-accepted}
+use Rattle.laws.specs.Kept.{Right, right-changed, changedFields, changed-accepted}
 use Rattle.laws.specs.Figures.{repricedDeal, trades-changed, trades-others, span-others, lots-kept, le-true}
 use Rattle.laws.specs.Shift.{LiftedSpan, none, some, Lifted, shift}
 
@@ -72,29 +69,11 @@ module _ (δ : ℤ) where
         in-order = order-kept (hasBid sides) (hasOffer sides) bid offer (h .in-order);
       }
 
-  -- by whether the field is of 3M
-  lift-sound : (least : ℕ) (f : Field) → Liftable δ f → Sound least f → Sound least (liftedField δ f)
-  lift-sound least (Header metal marks) l h = h
-  lift-sound least (PreviousClose instrument price) l h = by-test (eqb instrument 0) refl
-    where
-      by-test : (b : Bool) → eqb instrument 0 ≡ b → Sound least (cond b (PreviousClose instrument (shiftPrice δ price)) (PreviousClose instrument price))
-      by-test true e = (h .0, rw (eqb-true instrument 0 e) (l (eqb-true instrument 0 e)))
-      by-test false e = h
-  lift-sound least (Trade time instrument price lots) l h = by-test (eqb instrument 0) refl
-    where
-      by-test : (b : Bool) → eqb instrument 0 ≡ b → Sound least (cond b (Trade time instrument (shiftPrice δ price) lots) (Trade time instrument price lots))
-      by-test true e = record { stamp = h .stamp; price-in = rw (eqb-true instrument 0 e) (l (eqb-true instrument 0 e)); some = h .some; most = h .most }
-      by-test false e = h
-  lift-sound least (Quote time instrument sides bid offer) l h = by-test (eqb instrument 0) refl
-    where
-      by-test : (b : Bool) → eqb instrument 0 ≡ b → Sound least (cond b (shiftField δ (Quote time instrument sides bid offer)) (Quote time instrument sides bid offer))
-      by-test true e = let z = eqb-true instrument 0 e in rw z (quote-right least time sides bid offer (rw z at h) (l z))
-      by-test false e = h
-  lift-sound least (End count) l h = tt
-
   lift-right : (fs : List Field) → Each (Liftable δ) fs → Each (Right 0 (shiftPrice δ) (shiftSides δ)) fs
-  lift-right [] h = tt
-  lift-right (f ∷ fs) h = ((λ least e. judge-sound least (liftedField δ f) (lift-sound least f (h .0) (sound least f e))), lift-right fs (h .1))
+  lift-right = right-changed 0 (shiftPrice δ) (shiftSides δ) (Liftable δ)
+      (λ price l h. l refl)
+      (λ time price lots l h. l refl)
+      (λ least time sides bid offer l h. quote-right least time sides bid offer h (l refl))
 
   -- ---- a lifted sheet's figures
 

@@ -8,7 +8,7 @@ use mathlib.Core.Path.{_≡_, refl, sym, ap, ap₂, subst, _∙_}
 use mathlib.Core.Bool.{Bool, true, false, cond}
 use mathlib.Core.List.{List, [], _∷_, map}
 use native.Mathlib.Omega.{arith}
-use borrow.Author.Tests.{eqb-true, le-leb, leb-true, ne-eqb}
+use borrow.Author.Tests.{le-leb, leb-true, ne-eqb}
 use lib.Dec.{eqb}
 use lib.IntN.{ℤ, pos, negℤ, _+ℤ_, _*ℤ_, negℤ-negℤ, negℤ-+ℤ}
 use lib.Signed.{leZ, leZ-yes}
@@ -20,7 +20,7 @@ use Rattle.field.specs.declared.Field.the-variants.{Header, PreviousClose, Trad
 use Rattle.field.specs.Judging.{both, pick, ifPresent, ifAbsent, centsWithin, headerRight, priceRight, hasBid, hasOffer}
 use Rattle.field.specs.Layout.{tagOf}
 use Rattle.field.specs.Laws.{both-true, both-holds}
-use Rattle.field.specs.Sound.{Sound, SoundQuote, sound, judge-sound}
+use Rattle.field.specs.Sound.{Sound, SoundQuote}
 use Rattle.market.specs.Market.{startOf}
 use Rattle.sheet.specs.declared.Day.{Day}
 use Rattle.sheet.specs.Fields.{fieldsOf, encode, Each}
@@ -36,7 +36,7 @@ use Rattle.twap.specs.Span.{missing, sum, spanOf}
 use Rattle.closing.specs.Closing.{figuresOf, closingsOf, six}
 use Rattle.laws.specs.Demand.{turnedMarks, remarked, turnedField, turned, turnedDay, TurnLaw, TwiceLaw}
 use Rattle.laws.specs.Marks.{xor-twice, mark-turned, mark-kept, marks-small}
-use Rattle.laws.specs.Kept.{Right, tag-same, changedFields, changed-accepted}
+use Rattle.laws.specs.Kept.{Right, tag-same, right-changed, changedFields, changed-accepted}
 use Rattle.laws.specs.Figures.{repricedDeal, trades-changed, trades-others, lots-kept, trades-header, span-header, span-others, le-true}
 use Rattle.laws.specs.Lift.{answers-are}
 use Rattle.laws.specs.Turn.{turnedSpan, Turned, turn}
@@ -105,30 +105,18 @@ quote-turned least time k sides bid offer h =
       in-order = rw (bid-is-offer sides, offer-is-bid sides) (order-turned (hasBid sides) (hasOffer sides) bid offer (h .in-order));
     }
 
-module _ (k : ℕ) where
-  -- a field of spread k + 1
-  turn-sound : (least : ℕ) (f : Field) → Sound least f → Sound least (changed (suc k) turnField f)
-  turn-sound least (Header metal marks) h = h
-  turn-sound least (PreviousClose instrument price) h = by-test (eqb instrument (suc k)) refl
-    where
-      by-test : (b : Bool) → eqb instrument (suc k) ≡ b → Sound least (cond b (PreviousClose instrument (turnPrice price)) (PreviousClose instrument price))
-      by-test true e = let z = eqb-true instrument (suc k) e in (h .0, rw z (price-turned k price (rw z at (h .1))))
-      by-test false e = h
-  turn-sound least (Trade time instrument price lots) h = by-test (eqb instrument (suc k)) refl
-    where
-      by-test : (b : Bool) → eqb instrument (suc k) ≡ b → Sound least (cond b (Trade time instrument (turnPrice price) lots) (Trade time instrument price lots))
-      by-test true e = let z = eqb-true instrument (suc k) e in record { stamp = h .stamp; price-in = rw z (price-turned k price (rw z at (h .price-in))); some = h .some; most = h .most }
-      by-test false e = h
-  turn-sound least (Quote time instrument sides bid offer) h = by-test (eqb instrument (suc k)) refl
-    where
-      by-test : (b : Bool) → eqb instrument (suc k) ≡ b → Sound least (cond b (turnField (Quote time instrument sides bid offer)) (Quote time instrument sides bid offer))
-      by-test true e = let z = eqb-true instrument (suc k) e in rw z (quote-turned least time k sides bid offer (rw z at h))
-      by-test false e = h
-  turn-sound least (End count) h = tt
+-- nothing else has to hold of a field of a spread
+each-unit : (fs : List Field) → Each (λ f. Unit {0}) fs
+each-unit [] = tt
+each-unit (f ∷ fs) = (tt, each-unit fs)
 
-  turn-right : (fs : List Field) → Each (Right (suc k) turnPrice turnSides) fs
-  turn-right [] = tt
-  turn-right (f ∷ fs) = ((λ least e. judge-sound least (changed (suc k) turnField f) (turn-sound least f (sound least f e))), turn-right fs)
+turn-right : (k : ℕ) (fs : List Field) → Each (Right (suc k) turnPrice turnSides) fs
+turn-right k fs =
+    right-changed (suc k) turnPrice turnSides (λ f. Unit {0})
+    (λ price ok h. price-turned k price h)
+    (λ time price lots ok h. price-turned k price h)
+    (λ least time sides bid offer ok h. quote-turned least time k sides bid offer h)
+    fs (each-unit fs)
 
 -- ---- a turned sheet's figures
 
