@@ -5,7 +5,7 @@
 --     Summing           the milliseconds that are summed so far
 --     span-..           what the two answers say
 -- Assumes nothing.
-use Prim.Native.Nat.{ℕ, suc, _+_, _*_, _≤_, _<_, zero-le}
+use Prim.Native.Nat.{ℕ, _+_, _*_, _≤_, _<_, zero-le}
 use mathlib.Core.Path.{_≡_, refl, sym, ap, subst, subst⁻¹, _∙_}
 use mathlib.Core.Bool.{Bool, true, false}
 use mathlib.Core.List.{List, [], _∷_}
@@ -72,13 +72,13 @@ accepted-rising s a =
 
 -- ---- the walk
 
--- the state and the fields from the place on say what all the fields say at t and later, and those fields rise from m on
-pub record Stands (i start t m : ℕ) (s : List ℕ) (w : Walk) : Type 0 where
+-- the state and the fields from the place on say what all the fields say at t and later, and none of those fields counts before it is due
+pub record Stands (i start t : ℕ) (s : List ℕ) (w : Walk) : Type 0 where
   pub reached : Reached i start t (fieldsOf s) (w .state) (fieldsAt s (w .at))
-  pub rising : Rising m (fieldsAt s (w .at))
+  pub rising : Rising (w .due) (fieldsAt s (w .at))
 
 -- before the first field
-pub stands-first : (i start t : ℕ) (s : List ℕ) {state : Indicator} → Accepted s → state ≡ empty → Stands i start t 0 s (record { state = state; at = 0 })
+pub stands-first : (i start t : ℕ) (s : List ℕ) {state : Indicator} → Accepted s → state ≡ empty → Stands i start t s (record { state = state; at = 0; due = 0 })
 stands-first i start t s a e = rw e (record { reached = reached-later i start (fieldsOf s) 0 t empty (fieldsOf s) zero-le (reached-none i start (fieldsOf s)); rising = accepted-rising s a })
 
 -- behind a field the rest rises
@@ -89,29 +89,32 @@ rest-rises (Trade time instrument price lots) fs r = rising-low 0 time fs zero-l
 rest-rises (Quote time instrument sides bid offer) fs r = rising-low 0 time fs zero-le (r .1)
 rest-rises (End count) fs r = r
 
--- from a field that comes later on all do
-later-rises : (t : ℕ) (f : Field) (fs : List Field) → t < stamp f → Rising 0 (f ∷ fs) → Rising (suc t) (f ∷ fs)
-later-rises t (Header metal marks) fs l r = absurd (omega arith)
-later-rises t (PreviousClose instrument price) fs l r = absurd (omega arith)
-later-rises t (Trade time instrument price lots) fs l r = (l, r .1)
-later-rises t (Quote time instrument sides bid offer) fs l r = (l, r .1)
-later-rises t (End count) fs l r = absurd (omega arith)
+-- from a field on none counts before it
+stamp-rises : (f : Field) (fs : List Field) → Rising 0 (f ∷ fs) → Rising (stamp f) (f ∷ fs)
+stamp-rises (Header metal marks) fs r = r
+stamp-rises (PreviousClose instrument price) fs r = r
+stamp-rises (Trade time instrument price lots) fs r = (le-refl time, r .1)
+stamp-rises (Quote time instrument sides bid offer) fs r = (le-refl time, r .1)
+stamp-rises (End count) fs r = r
 
-module _ (i start t : ℕ) (s : List ℕ) (state : Indicator) (at : ℕ) (o : Stands i start t 0 s (record { state = state; at = at })) {r : Read} (e : readSays r ≡ shapeAt s at) where
+-- a walk as it begins to advance: a field may be due at once
+pub stands-begun : (i start t : ℕ) (s : List ℕ) (w : Walk) → Stands i start t s w → Stands i start t s (record { state = w .state; at = w .at; due = 0 })
+stands-begun i start t s w o = record { reached = o .reached; rising = rising-low 0 (w .due) (fieldsAt s (w .at)) zero-le (o .rising) }
+
+module _ (i start t : ℕ) (s : List ℕ) (state : Indicator) (at : ℕ) (o : Stands i start t s (record { state = state; at = at; due = 0 })) {r : Read} (e : readSays r ≡ shapeAt s at) where
   -- no field is left
-  pub stands-end : {number place : ℕ} → r ≡ R.Refused number place → Stands i start t (suc t) s (record { state = state; at = at })
-  stands-end d = record { reached = o .reached; rising = rw (fields-stop s at (read-stopped s at e d)) tt }
+  pub stands-end : {number place : ℕ} → r ≡ R.Refused number place → (due : ℕ) → Stands i start t s (record { state = state; at = at; due = due })
+  stands-end d due = record { reached = o .reached; rising = rw (fields-stop s at (read-stopped s at e d)) tt }
 
   module _ {f : Field} {next x : ℕ} (d : r ≡ R.Field f next) (k : x ≡ stamp f) where
     -- the next field comes later
-    pub stands-later : t < x → Stands i start t (suc t) s (record { state = state; at = at })
-    stands-later l =
+    pub stands-later : Stands i start t s (record { state = state; at = at; due = x })
+    stands-later =
         let q = fields-gave s at (read-gave s at e d) in
-        let late : t < stamp f = omega (arith, k) in
-        record { reached = o .reached; rising = subst⁻¹ (Rising (suc t)) q (later-rises t f (fieldsAt s next) late (subst (Rising 0) q (o .rising))) }
+        rw k (record { reached = o .reached; rising = subst⁻¹ (Rising (stamp f)) q (stamp-rises f (fieldsAt s next) (subst (Rising 0) q (o .rising))) })
 
     -- one field more
-    pub stands-next : x ≤ t → {b : Indicator} → b ≡ taken i start state f → Stands i start t 0 s (record { state = b; at = next })
+    pub stands-next : x ≤ t → {b : Indicator} → b ≡ taken i start state f → Stands i start t s (record { state = b; at = next; due = 0 })
     stands-next l g =
         let q = fields-gave s at (read-gave s at e d) in
         let due : stamp f ≤ t = omega (arith, k) in
@@ -120,18 +123,15 @@ module _ (i start t : ℕ) (s : List ℕ) (state : Indicator) (at : ℕ) (o : St
           rising = rest-rises f (fieldsAt s next) (subst (Rising 0) q (o .rising));
         })
 
-pub ruleset walking = (stands-end, stands-later, stands-next, less-read, needs)
+pub ruleset walking = (stands-begun, stands-end, stands-later, stands-next, less-read, needs)
 
--- the state of a walk that was advanced is the indicator's
-pub stands-state : (i start t : ℕ) (s : List ℕ) (w : Walk) → Stands i start t (suc t) s w → after i start t (fieldsOf s) ≡ w .state
-stands-state i start t s w o = reached-state i start (fieldsOf s) t t (suc t) (w .state) (fieldsAt s (w .at)) (o .reached) (le-refl t) (le-refl (suc t)) (o .rising)
+-- until the next field is due the state is the indicator's
+pub stands-state : (i start t : ℕ) (s : List ℕ) (w : Walk) → Stands i start t s w → t < w .due → after i start t (fieldsOf s) ≡ w .state
+stands-state i start t s w o l = reached-state i start (fieldsOf s) t t (w .due) (w .state) (fieldsAt s (w .at)) (o .reached) (le-refl t) l (o .rising)
 
 -- a later millisecond is before it
-pub stands-on : (i start t u : ℕ) (s : List ℕ) (w : Walk) → t ≤ u → Stands i start t (suc t) s w → Stands i start u 0 s w
-stands-on i start t u s w l o = record {
-  reached = reached-later i start (fieldsOf s) t u (w .state) (fieldsAt s (w .at)) l (o .reached);
-  rising = rising-low 0 (suc t) (fieldsAt s (w .at)) zero-le (o .rising);
-}
+pub stands-on : (i start t u : ℕ) (s : List ℕ) (w : Walk) → t ≤ u → Stands i start t s w → Stands i start u s w
+stands-on i start t u s w l o = record { reached = reached-later i start (fieldsOf s) t u (w .state) (fieldsAt s (w .at)) l (o .reached); rising = o .rising }
 
 -- ---- the sum
 
@@ -141,25 +141,25 @@ withSide total side = record { cents = total .cents +ℤ centsOf side }
 
 -- k milliseconds are summed, and the walk is before the next
 pub record Summing (i start : ℕ) (s : List ℕ) (w : Walk) (total : Total) (k : ℕ) : Type 0 where
-  pub stands : Stands i start (start + k) 0 s w
+  pub stands : Stands i start (start + k) s w
   pub same : total .cents ≡ sumFrom (centsAt i start (fieldsOf s)) start k
 
 module _ (i start : ℕ) (s : List ℕ) where
   -- no millisecond yet
-  pub sum-start : (w : Walk) → Stands i start start 0 s w → Summing i start s w (record { cents = pos 0 }) 0
+  pub sum-start : (w : Walk) → Stands i start start s w → Summing i start s w (record { cents = pos 0 }) 0
   sum-start w o =
       let e : start ≡ start + 0 = omega arith in
-      record { stands = subst (λ (t : ℕ). Stands i start t 0 s w) e o; same = sym (sum-none _ start) }
+      record { stands = subst (λ (t : ℕ). Stands i start t s w) e o; same = sym (sum-none _ start) }
 
   -- the total is far from the limits of its type
   pub sum-small : (w : Walk) (total : Total) (k : ℕ) → Accepted s → k ≤ 300000 → Summing i start s w total k → natAbs (total .cents) ≤ 300000 * 99999999
   sum-small w total k a l o = rw (o .same) (omega (arith, part-size i start s a k))
 
   -- one millisecond more, of an advanced walk
-  pub sum-next : (w r : Walk) (total : Total) (k : ℕ) → Summing i start s w total k → Stands i start (start + k) (suc (start + k)) s r
+  pub sum-next : (w r : Walk) (total : Total) (k : ℕ) → Summing i start s w total k → Stands i start (start + k) s r → start + k < r .due
       → {v : Side} → v ≡ valueOf (r .state) → {u : Total} → u ≡ withSide total v → Summing i start s r u (k + 1)
-  sum-next w r total k o a {v} e {u} g =
-      let value : centsOf v ≡ centsAt i start (fieldsOf s) (start + k) = ap centsOf (e ∙ ap valueOf (sym (stands-state i start (start + k) s r a))) in
+  sum-next w r total k o a l {v} e {u} g =
+      let value : centsOf v ≡ centsAt i start (fieldsOf s) (start + k) = ap centsOf (e ∙ ap valueOf (sym (stands-state i start (start + k) s r a l))) in
       record {
         stands = stands-on i start (start + k) (start + (k + 1)) s r (omega arith) a;
         same = ap (λ (x : Total). x .cents) g ∙ sum-step (centsAt i start (fieldsOf s)) start k (o .same) value;
@@ -175,10 +175,10 @@ pub ruleset summing = (sum-start, sum-small, sum-next, sum-done, needs)
 
 -- ---- the answers
 
-module _ (i start : ℕ) (s : List ℕ) (w : Walk) (o : Stands i start start (suc start) s w) {b : Bool} (e : b ≡ present (w .state .reference)) where
+module _ (i start : ℕ) (s : List ℕ) (w : Walk) (o : Stands i start start s w) (l : start < w .due) {b : Bool} (e : b ≡ present (w .state .reference)) where
   -- the walk's reference is the indicator's at the window's first millisecond
   referred : hasReference i start (fieldsOf s) ≡ b
-  referred = ap (λ (x : Indicator). present (x .reference)) (stands-state i start start s w o) ∙ sym e
+  referred = ap (λ (x : Indicator). present (x .reference)) (stands-state i start start s w o l) ∙ sym e
 
   pub span-missing : b ≡ false → missing ≡ spanOf i start (fieldsOf s)
   unfolding spanOf

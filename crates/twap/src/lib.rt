@@ -1,6 +1,6 @@
 // What a contract's TWAP needs of its instrument: the sum of the indicator over the window, or that it has no reference. Hosts don't call it.
 ghost use mathlib.Core.Path.{_≡_};
-ghost use Prim.Native.Nat.{suc, _*_, _≤_};
+ghost use Prim.Native.Nat.{_*_, _≤_, _<_};
 ghost use lib.IntN.{natAbs};
 ghost use Rattle.sheet.specs.Fields.{fieldsOf};
 ghost use Rattle.indicator.specs.Indicator.{stamp, twapSum};
@@ -25,10 +25,11 @@ pub enum Summed {
     Sum(Total),
 }
 
-// The indicator's state, and the place of the first field that it does not have yet.
+// The indicator's state, the place of the first field that it does not have yet, and a millisecond before which none from there on counts.
 struct Walk {
     state: Indicator,
     at: usize,
+    due: u64,
 }
 
 // The millisecond from which a field counts: a record's time; any other field counts all day.
@@ -60,24 +61,41 @@ fn stamp_of(field: Field) -> u64
 
 // Takes every field that counts at the millisecond, and stops at the first that comes later.
 fn advance(sheet: &[u8], instrument: u8, start: u32, millisecond: u64, walk: Walk) -> Walk
-    requires { ⌜ Stands instrument start millisecond 0 (now sheet) walk ⌝ }
-    ensures { λ r. ⌜ Stands instrument start millisecond (suc millisecond) (now (sheet .entry)) r ⌝ }
+    requires { ⌜ Stands instrument start millisecond (now sheet) walk × (millisecond < 18446744073709551615) ⌝ }
+    ensures { λ r. ⌜ Stands instrument start millisecond (now (sheet .entry)) r × (millisecond < r .due) ⌝ }
 {
     let mut state = walk.state;
     let mut at = walk.at;
     loop {
         match shape_at(sheet, at) {
             Read::Field(field, next) => {
-                if millisecond < stamp_of(field) {
-                    return Walk { state, at };
+                let due = stamp_of(field);
+                if millisecond < due {
+                    return Walk { state, at, due };
                 }
                 state = take_field(state, instrument, start, field);
                 at = next;
             }
             Read::Refused(_, _) => {
-                return Walk { state, at };
+                return Walk {
+                    state,
+                    at,
+                    due: 18_446_744_073_709_551_615,
+                };
             }
         }
+    }
+}
+
+// The walk at a millisecond: no field is read where none is due.
+fn stand_at(sheet: &[u8], instrument: u8, start: u32, millisecond: u64, walk: Walk) -> Walk
+    requires { ⌜ Stands instrument start millisecond (now sheet) walk × (millisecond < 18446744073709551615) ⌝ }
+    ensures { λ r. ⌜ Stands instrument start millisecond (now (sheet .entry)) r × (millisecond < r .due) ⌝ }
+{
+    if walk.due <= millisecond {
+        advance(sheet, instrument, start, millisecond, walk)
+    } else {
+        walk
     }
 }
 
@@ -97,7 +115,7 @@ fn plus(total: Total, side: Side) -> Total
 // The sum over the window's milliseconds, one after the other, from a walk that stands at the first.
 fn sum_from(sheet: &[u8], instrument: u8, start: u32, first: Walk) -> Total
     requires { ⌜ Accepted (now sheet) ⌝ }
-    requires { ⌜ Stands instrument start start 0 (now sheet) first ⌝ }
+    requires { ⌜ Stands instrument start start (now sheet) first ⌝ }
     ensures { λ r. ⌜ r .cents ≡ twapSum instrument start (fieldsOf (now (sheet .entry))) ⌝ }
 {
     let mut walk = first;
@@ -105,7 +123,7 @@ fn sum_from(sheet: &[u8], instrument: u8, start: u32, first: Walk) -> Total
     let mut past: u32 = 0;
     while past < WINDOW {
         let millisecond = start as u64 + past as u64;
-        walk = advance(sheet, instrument, start, millisecond, walk);
+        walk = stand_at(sheet, instrument, start, millisecond, walk);
         let state = walk.state;
         total = plus(total, state.value());
         past += 1;
@@ -121,6 +139,7 @@ pub fn span_of(sheet: &[u8], instrument: u8, start: u32) -> Summed
     let none = Walk {
         state: Indicator::empty(),
         at: 0,
+        due: 0,
     };
     let first = advance(sheet, instrument, start, start as u64, none);
     let state = first.state;

@@ -1,11 +1,12 @@
 -- `twap::advance` meets its contract, by the laws of the walk. Assumes nothing.
 use Rattle.sheet.specs.Walk.{left}
-use Rattle.twap.specs.Walking.{Stands, walking}
+use borrow.Author.Needs.{needs}
+use Rattle.twap.specs.Walking.{Stands, stands-next, walking}
 use Rattle.twap.proofs.advance.Statement.{statement}
 use Rattle.twap.proofs.advance.Tie as tie
 
 abbrev Inv-loop : tie.InvT-loop
-Inv-loop sheet instrument start millisecond state₀ at₀ state at = Stands instrument start millisecond 0 sheet (record { state = state; at = at })
+Inv-loop sheet instrument start millisecond state₀ at₀ state at = Stands instrument start millisecond sheet (record { state = state; at = at; due = 0 })
 
 abbrev μ-loop : tie.MeasureT-loop
 μ-loop sheet instrument start millisecond state₀ at₀ state at = left sheet at
@@ -32,7 +33,7 @@ loop-less : tie.Need-loop-less Inv-loop μ-loop
 loop-less c = search walking
 
 loop-again : tie.Need-loop-again Inv-loop μ-loop
-loop-again c = search walking
+loop-again c = search (stands-next, needs)
 
 enum-told : tie.Need-enum-told Inv-loop μ-loop
 enum-told c = search walking

@@ -19,8 +19,8 @@ cast-millisecond c = search summing
 add-millisecond : tie.Need-add-millisecond Inv-loop μ-loop
 add-millisecond c = search summing
 
-advance-requires : tie.Need-advance-requires Inv-loop μ-loop
-advance-requires c κs = search summing
+stand-at-requires : tie.Need-stand-at-requires Inv-loop μ-loop
+stand-at-requires c κs = search summing
 
 value-requires : tie.Need-value-requires Inv-loop μ-loop
 value-requires c κs = search summing
@@ -49,7 +49,7 @@ sum-from-spec =
     loop-holds
     cast-millisecond
     add-millisecond
-    advance-requires
+    stand-at-requires
     value-requires
     plus-requires
     add-past
