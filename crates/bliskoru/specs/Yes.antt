@@ -22,8 +22,8 @@ use Rattle.admit.specs.Admitting.{admit, admitted, admitNumber, stops}
 use Rattle.admit.specs.Laws.{stopped}
 use Rattle.sheet.specs.Judgement.{judgeSheet, refuses-at}
 use Rattle.closing.specs.Closing.{Answers, six, none-priced, answersOf}
-use Rattle.list.specs.Names.{metalName, tooLong}
-use Rattle.list.specs.Listing.{space, lineFeed, line, refusal, answerLines, listText, listOf}
+use Rattle.listing.specs.Names.{metalName, tooLong}
+use Rattle.listing.specs.Listing.{space, lineFeed, line, refusal, answerLines, listText, listOf}
 use Rattle.sheet.specs.Earned.{Earned, too-long, bad-shape, bad-field, trailing, earned}
 
 -- what is settled with a number has another number than 0

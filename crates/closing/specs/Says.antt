@@ -42,6 +42,9 @@ answer-back (NoReference lots) = refl
 answer-back (OutOfRange lots) = refl
 answer-back NotReached = refl
 
+pub answer-once : {d : Told} {x y : Answer} → answerSays x ≡ d → answerSays y ≡ d → x ≡ y
+answer-once p q = through answerSays answer-of answer-back p q
+
 abbrev at : List Told → ℕ → Answer
 at ts c = answer-of (getD ts c (refused 15 0))
 

@@ -21,8 +21,8 @@ use Rattle.closing.specs.declared.Closed.{Closed}
 use Rattle.closing.specs.declared.Closed.the-variants as C
 use Rattle.closing.specs.Closing.{Told, six, none-priced, answersBy, answersOf}
 use Rattle.closing.specs.Says.{closingsSay, closedSays, closed-once}
-use Rattle.closing.proofs.closings.Reads as closings
-use Rattle.closing.proofs.closings.Kinds as closingsK
+use Rattle.answers.proofs.closings.Reads as closings
+use Rattle.answers.proofs.closings.Kinds as closingsK
 use Rattle.laws.specs.Demand.{steps, lifted, Liftable, Moves, turned, turnedDay}
 use Rattle.laws.specs.Lift.{shifts}
 use Rattle.laws.specs.Turning.{turns}

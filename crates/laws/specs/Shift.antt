@@ -31,7 +31,7 @@ use Rattle.closing.specs.declared.Mean.the-variants.{Of, Missing}
 use Rattle.closing.specs.declared.Known.{Known}
 use Rattle.closing.specs.Closing.{Figures, applied, lessOf, baseOf, impliedBy, dealsSum, vwapSum, vwapLots, twapBy, lotsOf, meanOf, Told, closed, answered, rowAnswer, answerBy, learnt, knownAt, answerOf}
 use Rattle.closing.specs.Adding.{deals-are}
-use Rattle.closing.specs.State.{View, price, no-price, view}
+use Rattle.answers.specs.State.{View, price, no-price, view}
 use Rattle.laws.specs.Demand.{Moved, lifts, stays, InRange}
 
 -- ---- the figures, lifted by δ

@@ -3,14 +3,15 @@
 ghost use mathlib.Core.Path.{_≡_};
 ghost use Prim.Native.Nat.{_<_, _≤_};
 ghost use lib.ListN.{length};
-use closing::Answer;
+use answers::closings;
 use closing::Closed;
-use closing::Method;
-use closing::closings;
 use libc::STDIN_FILENO;
 use libc::STDOUT_FILENO;
+use lines::put_lines;
+use lines::put_refusal;
 use sheet::Judged;
 use sheet::judge_sheet;
+use text::Text;
 
 // A number behind a space.
 fn print_number(n: u64) {
@@ -25,57 +26,20 @@ fn print_refused(number: u64, with: u64) {
     print_number(with);
 }
 
-// A priced contract's method, close and lots.
-fn print_close(method: Method, close: u32, lots: u64) {
-    match method {
-        Method::Vwap => {
-            io::write_all(STDOUT_FILENO, b"VWAP");
-        }
-        Method::Twap => {
-            io::write_all(STDOUT_FILENO, b"TWAP");
-        }
+// The bytes of a text.
+fn print_text(t: Text) {
+    let store = t.store;
+    let len = t.len;
+    if len <= 512 {
+        io::write_all(STDOUT_FILENO, &store[..len]);
     }
-    print_number(close as u64);
-    print_number(lots);
-}
-
-// A contract's answer, on a line of its own.
-fn print_answer(name: &[u8], answer: Answer) {
-    io::write_all(STDOUT_FILENO, name);
-    match answer {
-        Answer::Priced {
-            method,
-            close,
-            lots,
-        } => print_close(method, close, lots),
-        Answer::NoReference(lots) => print_refused(13, lots),
-        Answer::OutOfRange(lots) => print_refused(14, lots),
-        Answer::NotReached => print_refused(15, 0),
-    }
-    io::write_all(STDOUT_FILENO, b"\n");
 }
 
 // The six answers of a sheet, a line each, or its refusal.
 fn print_answers(sheet: &[u8]) {
     match closings(sheet) {
-        Closed::Six(_, six) => {
-            let three = six.three;
-            print_answer(b"3M ", three);
-            let m3 = six.m3;
-            print_answer(b"M3 ", m3);
-            let m2 = six.m2;
-            print_answer(b"M2 ", m2);
-            let m4 = six.m4;
-            print_answer(b"M4 ", m4);
-            let m1 = six.m1;
-            print_answer(b"M1 ", m1);
-            let cash = six.cash;
-            print_answer(b"Cash ", cash);
-        }
-        Closed::Refused(number, at) => {
-            print_refused(number as u64, at as u64);
-            io::write_all(STDOUT_FILENO, b"\n");
-        }
+        Closed::Six(_, six) => print_text(put_lines(Text::empty(), six)),
+        Closed::Refused(number, at) => print_text(put_refusal(Text::empty(), number, at as u64)),
     }
 }
 

@@ -1,4 +1,5 @@
 -- `admit::admit_number` meets its contract. Assumes nothing.
+use mathlib.Core.Path.{_∙_}
 use Rattle.admit.specs.Admitting.{admitNumber}
 use borrow.Author.Needs.{needs}
 use Rattle.admit.proofs.admit_number.Statement.{statement}
@@ -24,7 +25,7 @@ unless-requires-2 c κs = search needs
 
 returns : tie.Need-returns
 unfolding admitNumber
-returns c = cc
+returns c = c .unless2 .ensures ∙ rw (c .before .before .unless .ensures, c .before .before .before .is-placed .ensures, c .before .before .before .before .also .ensures, c .before .before .before .before .before .count-number .ensures, c .before .before .before .before .before .before .judge .ensures)
 
 pub admit-number-spec : {M : Type 1} → statement M
 admit-number-spec =

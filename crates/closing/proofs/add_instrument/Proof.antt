@@ -1,5 +1,5 @@
 -- `closing::add_instrument` meets its contract: no sum leaves 64 bits. Assumes nothing.
-use Prim.Native.Nat.{ℕ, _≤_}
+use Prim.Native.Nat.{ℕ, _+_, _≤_}
 use mathlib.Core.Path.{_≡_, _∙_, ap}
 use native.Mathlib.Omega.{arith}
 use lib.IntN.{ℤ, natAbs, _+ℤ_}
@@ -8,6 +8,7 @@ use mir.Val.{toZ, ofZ}
 use Rattle.cents.specs.Whole.{Known, known-is, fits, back, plus, field, same-at, mag-size}
 use Rattle.trades.specs.declared.Total.{Total}
 use Rattle.trades.specs.Laws.{Small}
+use Rattle.closing.specs.declared.Sum.{Sum}
 use Rattle.closing.specs.Closing.{impliedBy}
 use Rattle.closing.specs.Adding.{totalAt, implied-size}
 use borrow.Author.Needs.{needs}
@@ -57,10 +58,15 @@ implied-by-requires c κs = let p = c .before .before .before .before in (p .bef
 add-t9 : tie.Need-add-t9
 add-t9 c = fits tt (both c)
 
+abbrev summed : ℕ → ℤ → Sum
+summed lots sum = record { lots = lots; sum = sum }
+
 returns : tie.Need-returns
 returns c =
     let p = c .before .before .before .before .before in
-    cc (back tt (both c) .known, ap (λ (x : Total). x .lots) (p .total-at .ensures))
+    let s = p .before .args .s in
+    ap (summed (s .lots + p .total-at .result .lots)) (back tt (both c) .known)
+    ∙ ap (λ (t : Total). summed (s .lots + t .lots) (s .sum +ℤ partOf c)) (p .total-at .ensures)
 
 pub add-instrument-spec : {M : Type 1} → statement M
 add-instrument-spec =

@@ -1,6 +1,7 @@
 -- `closing::implied_by` meets its contract. Assumes nothing.
 use Rattle.closing.specs.Adding.{base-small}
 use Rattle.closing.specs.Closing.{impliedBy}
+use mathlib.Core.Path.{_∙_}
 use Rattle.cents.specs.Whole.{same-at}
 use mir.Facts.{toZ-ofZ}
 use mir.Syntax.{w64}
@@ -27,7 +28,12 @@ apply-requires c κs =
 
 returns : tie.Need-returns
 unfolding impliedBy
-returns c = cc (same-at w64 (c .apply .result) (c .apply .ok), c .apply .ensures, c .before .less .ensures, c .before .before .is-marked .ensures, c .before .before .before .base .ensures, c .before .before .before .before .leg-of .ensures, toZ-ofZ (c .before .before .before .before .before .fits .value))
+returns c =
+    let k = c .before .before .before in
+    let s = k .before .before in
+    same-at w64 (c .apply .result) (c .apply .ok)
+    ∙ c .apply .ensures
+    ∙ rw (c .before .less .ensures, c .before .before .is-marked .ensures, k .base .ensures, k .before .leg-of .ensures, toZ-ofZ (s .fits .value))
 
 pub implied-by-spec : {M : Type 1} → statement M
 implied-by-spec =

@@ -6,7 +6,7 @@ use lib.ListN.{length, replicate}
 use lib.Seq.{length-take-le}
 use denote.Ref.{now}
 use borrow.Author.Needs.{needs}
-use Rattle.list.specs.Listing.{listOf}
+use Rattle.listing.specs.Listing.{listOf}
 use Rattle.text.specs.Over.{next-counts}
 use Rattle.closing_list.proofs.print_list.Statement.{statement}
 use Rattle.closing_list.proofs.print_list.Tie as tie

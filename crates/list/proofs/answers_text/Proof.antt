@@ -4,8 +4,8 @@ use mathlib.Core.List.{[], append-assoc}
 use borrow.Author.Needs.{needs}
 use Rattle.text.specs.Held.{Has, held, _⊕_, ⊕-⊕, empty-holds, whole}
 use Rattle.closing.specs.Says.{closedSays}
-use Rattle.list.specs.Listing.{listText}
-use Rattle.list.specs.Laws.{list-length}
+use Rattle.listing.specs.Listing.{listText}
+use Rattle.listing.specs.Laws.{list-length}
 use Rattle.list.proofs.answers_text.Statement.{statement}
 use Rattle.list.proofs.answers_text.Tie as tie
 

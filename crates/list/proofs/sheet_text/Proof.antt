@@ -5,9 +5,9 @@ use mathlib.Core.List.{[], _∷_}
 use native.Mathlib.Omega.{arith}
 use borrow.Author.Needs.{needs}
 use Rattle.text.specs.Held.{Has, held, _⊕_, ⊕-⊕, empty-holds, whole}
-use Rattle.list.specs.Names.{tooLong}
-use Rattle.list.specs.Listing.{line, listText}
-use Rattle.list.specs.Laws.{too-long, listed}
+use Rattle.listing.specs.Names.{tooLong}
+use Rattle.listing.specs.Listing.{line, listText}
+use Rattle.listing.specs.Laws.{too-long, listed}
 use Rattle.list.proofs.sheet_text.Statement.{statement}
 use Rattle.list.proofs.sheet_text.Tie as tie
 

@@ -1,4 +1,5 @@
 -- `reader::tagged_number` meets its contract. Assumes nothing.
+use mathlib.Core.Path.{_∙_}
 use borrow.Author.Needs.{needs}
 use Rattle.reader.proofs.tagged_number.Statement.{statement}
 use Rattle.reader.proofs.tagged_number.Tie as tie
@@ -22,7 +23,7 @@ unless-requires-3 : tie.Need-unless-requires-3
 unless-requires-3 c κs = search needs
 
 returns : tie.Need-returns
-returns c = cc
+returns c = c .unless3 .ensures ∙ rw (c .before .tag-right .ensures, c .before .before .unless2 .ensures, c .before .before .before .length-of .ensures, c .before .before .before .before .unless .ensures, c .before .before .before .before .before .size-of .ensures)
 
 pub tagged-number-spec : {M : Type 1} → statement M
 tagged-number-spec =

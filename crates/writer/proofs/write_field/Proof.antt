@@ -1,5 +1,5 @@
 -- `writer::write_field` meets its contract. Assumes nothing.
-use Rattle.writer.proofs.Parts.{put-part}
+use Rattle.encoder.proofs.Parts.{put-part}
 use Rattle.field.specs.Laws.{MayWrite, may-write, field-length, written-fine, written-not}
 use Rattle.field.specs.Said.{gives}
 use Rattle.field.specs.Layout.{fieldBytes}

@@ -1,4 +1,5 @@
 -- `writer::write_number` meets its contract. Assumes nothing.
+use mathlib.Core.Path.{_∙_}
 use Rattle.field.specs.Writing.{writeNumber}
 use borrow.Author.Needs.{needs}
 use Rattle.writer.proofs.write_number.Statement.{statement}
@@ -21,7 +22,7 @@ also-requires c κs = search needs
 
 returns : tie.Need-returns
 unfolding writeNumber
-returns c = cc
+returns c = c .also .ensures ∙ rw (c .before .unless .ensures, c .before .before .judge .ensures, c .before .before .before .remaining .ensures, c .before .before .before .before .field-size .ensures)
 
 pub write-number-spec : {M : Type 1} → statement M
 write-number-spec =

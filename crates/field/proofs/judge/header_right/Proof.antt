@@ -1,4 +1,5 @@
 -- `field::judge::header_right` meets its contract. Assumes nothing.
+use mathlib.Core.Path.{_∙_}
 use borrow.Author.Needs.{needs}
 use Rattle.field.proofs.judge.header_right.Statement.{statement}
 use Rattle.field.proofs.judge.header_right.Tie as tie
@@ -10,7 +11,7 @@ both-requires : tie.Need-both-requires
 both-requires c κs = search needs
 
 returns : tie.Need-returns
-returns c = cc
+returns c = c .both .ensures ∙ rw (c .before .is-within .ensures)
 
 pub header-right-spec : {M : Type 1} → statement M
 header-right-spec = tie.close (tie.spec is-within-requires both-requires returns)

@@ -1,4 +1,5 @@
 -- `field::judge::judge_previous` meets its contract. Assumes nothing.
+use mathlib.Core.Path.{_∙_}
 use Rattle.field.specs.Judging.{judge}
 use borrow.Author.Needs.{needs}
 use Rattle.field.proofs.judge.judge_previous.Statement.{statement}
@@ -15,7 +16,7 @@ unless-requires-2 c κs = search needs
 
 returns : tie.Need-returns
 unfolding judge
-returns c = cc
+returns c = c .unless2 .ensures ∙ rw (c .before .unless .ensures, c .before .before .price-right .ensures)
 
 pub judge-previous-spec : {M : Type 1} → statement M
 judge-previous-spec =

@@ -1,4 +1,5 @@
 -- `field::judge::judge_quote` meets its contract. Assumes nothing.
+use mathlib.Core.Path.{_∙_}
 use Rattle.field.specs.Judging.{judge}
 use borrow.Author.Needs.{needs}
 use Rattle.field.proofs.judge.judge_quote.Statement.{statement}
@@ -27,7 +28,7 @@ stamp-requires c κs = search needs
 
 returns : tie.Need-returns
 unfolding judge
-returns c = cc
+returns c = c .stamp .ensures ∙ rw (c .before .unless3 .ensures, c .before .before .sides-right .ensures, c .before .before .before .unless2 .ensures, c .before .before .before .before .unless .ensures, c .before .before .before .before .before .in-order .ensures, c .before .before .before .before .before .before .side-prices-right .ensures)
 
 pub judge-quote-spec : {M : Type 1} → statement M
 judge-quote-spec =

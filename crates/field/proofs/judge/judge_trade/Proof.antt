@@ -1,4 +1,5 @@
 -- `field::judge::judge_trade` meets its contract. Assumes nothing.
+use mathlib.Core.Path.{_∙_}
 use Rattle.field.specs.Judging.{judge}
 use borrow.Author.Needs.{needs}
 use Rattle.field.proofs.judge.judge_trade.Statement.{statement}
@@ -21,7 +22,7 @@ stamp-requires c κs = search needs
 
 returns : tie.Need-returns
 unfolding judge
-returns c = cc
+returns c = c .stamp .ensures ∙ rw (c .before .unless2 .ensures, c .before .before .unless .ensures, c .before .before .before .is-within .ensures, c .before .before .before .before .price-right .ensures)
 
 pub judge-trade-spec : {M : Type 1} → statement M
 judge-trade-spec =

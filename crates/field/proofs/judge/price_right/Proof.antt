@@ -1,4 +1,5 @@
 -- `field::judge::price_right` meets its contract. Assumes nothing.
+use mathlib.Core.Path.{_∙_}
 use borrow.Author.Needs.{needs}
 use Rattle.field.proofs.judge.price_right.Statement.{statement}
 use Rattle.field.proofs.judge.price_right.Tie as tie
@@ -13,7 +14,7 @@ pick-requires : tie.Need-pick-requires
 pick-requires c κs = search needs
 
 returns : tie.Need-returns
-returns c = cc
+returns c = c .pick .ensures ∙ rw (c .before .cents-within2 .ensures, c .before .before .cents-within .ensures)
 
 pub price-right-spec : {M : Type 1} → statement M
 price-right-spec =

@@ -1,4 +1,5 @@
 -- `field::judge::side_prices_right` meets its contract. Assumes nothing.
+use mathlib.Core.Path.{_∙_}
 use borrow.Author.Needs.{needs}
 use Rattle.field.proofs.judge.side_prices_right.Statement.{statement}
 use Rattle.field.proofs.judge.side_prices_right.Tie as tie
@@ -19,7 +20,7 @@ both-requires : tie.Need-both-requires
 both-requires c κs = search needs
 
 returns : tie.Need-returns
-returns c = cc
+returns c = c .both .ensures ∙ rw (c .before .right-if-present2 .ensures, c .before .before .has-offer .ensures, c .before .before .before .right-if-present .ensures, c .before .before .before .before .has-bid .ensures)
 
 pub side-prices-right-spec : {M : Type 1} → statement M
 side-prices-right-spec =

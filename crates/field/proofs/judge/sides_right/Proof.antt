@@ -1,4 +1,5 @@
 -- `field::judge::sides_right` meets its contract. Assumes nothing.
+use mathlib.Core.Path.{_∙_}
 use borrow.Author.Needs.{needs}
 use Rattle.field.proofs.judge.sides_right.Statement.{statement}
 use Rattle.field.proofs.judge.sides_right.Tie as tie
@@ -22,7 +23,7 @@ both-requires-2 : tie.Need-both-requires-2
 both-requires-2 c κs = search needs
 
 returns : tie.Need-returns
-returns c = cc
+returns c = c .both2 .ensures ∙ rw (c .before .both .ensures, c .before .before .zero-if-absent2 .ensures, c .before .before .before .has-offer .ensures, c .before .before .before .before .zero-if-absent .ensures, c .before .before .before .before .before .has-bid .ensures)
 
 pub sides-right-spec : {M : Type 1} → statement M
 sides-right-spec =

@@ -1,4 +1,5 @@
 -- `field::judge::stamp` meets its contract. Assumes nothing.
+use mathlib.Core.Path.{_∙_}
 use borrow.Author.Needs.{needs}
 use Rattle.field.proofs.judge.stamp.Statement.{statement}
 use Rattle.field.proofs.judge.stamp.Tie as tie
@@ -13,7 +14,7 @@ unless-requires-2 : tie.Need-unless-requires-2
 unless-requires-2 c κs = search needs
 
 returns : tie.Need-returns
-returns c = cc
+returns c = c .unless2 .ensures ∙ rw (c .before .unless .ensures, c .before .before .time-right .ensures)
 
 pub stamp-spec : {M : Type 1} → statement M
 stamp-spec = tie.close (tie.spec time-right-requires unless-requires unless-requires-2 returns)
