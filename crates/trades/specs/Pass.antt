@@ -2,7 +2,7 @@
 -- at a time (`totals-step`), and the places of the code are answered from that.
 -- Assumes nothing.
 use Prim.Native.Nat.{ℕ, _+_, _≤_, _<_}
-use mathlib.Core.Path.{_≡_, refl, sym, ap, _∙_}
+use mathlib.Core.Path.{_≡_, refl, sym, ap, subst, _∙_}
 use mathlib.Core.Bool.{Bool, true, false, cond}
 use mathlib.Core.List.{List, [], _∷_, _++_}
 use native.Mathlib.Omega.{arith}
@@ -18,7 +18,8 @@ use Rattle.field.specs.declared.Read.{Read}
 use Rattle.field.specs.declared.Read.the-variants as R
 use Rattle.field.specs.Said.{readSays}
 use Rattle.field.specs.Reading.{shapeAt}
-use Rattle.field.specs.Sound.{Sound, SoundTrade}
+use Rattle.field.specs.Laws.{clash}
+use Rattle.field.specs.Sound.{Sound}
 use Rattle.market.specs.Market.{startOf, inWindow}
 use Rattle.sheet.specs.declared.Day.{Day}
 use Rattle.sheet.specs.declared.Judged.{Judged}
@@ -28,25 +29,30 @@ use Rattle.sheet.specs.Judgement.{accepts, judgeSheet, judgedSays}
 use Rattle.sheet.specs.Accepted.{accepted-sound, accepted-small}
 use Rattle.sheet.specs.Passes.{Sofar, sofar-start, sofar-each, sofar-here, sofar-next, sofar-stop}
 use Rattle.trades.specs.declared.Total.{Total}
+use Rattle.trades.specs.declared.Counted.{Counted}
+use Rattle.trades.specs.declared.Counted.the-variants as C
 use Rattle.trades.specs.Trades.{tradeIn, tradesIn, lotsIn, valueIn, totalOf, totalsOf, none, noTrades, totalsBy, Told}
-use Rattle.trades.specs.Laws.{same-total, join-none, total-append, trade-other, trade-outside, trade-inside, AllSmall, totals-length, totals-at, totals-none, totals-small}
+use Rattle.trades.specs.Laws.{Small, same-total, join-none, total-append, trade-other, trade-outside, trade-inside, AllSmall, totals-length, totals-at, totals-none, totals-small}
 
 -- a total with one trade more
 abbrev pub withTrade : Total → Price → ℕ → Total
 withTrade t price lots = record { lots = t .lots + lots; value = t .value +ℤ pos lots *ℤ price .cents }
 
--- a trade inside its instrument's window is added to that instrument's total
-unfoldable pub addTrade : ℕ → List Total → ℕ → ℕ → Price → ℕ → List Total
-addTrade metal ts time instrument price lots =
-    cond (inWindow (startOf metal instrument) time) (set ts instrument (withTrade (getD ts instrument none) price lots)) ts
+-- a trade counts inside its instrument's window, and no other field does
+unfoldable pub countedOf : ℕ → Field → Counted
+countedOf metal (Header m marks) = C.Nothing
+countedOf metal (PreviousClose instrument price) = C.Nothing
+countedOf metal (Trade time instrument price lots) = cond (inWindow (startOf metal instrument) time) (C.Trade instrument price lots) C.Nothing
+countedOf metal (Quote time instrument sides bid offer) = C.Nothing
+countedOf metal (End count) = C.Nothing
 
--- a field that is a trade is added
-unfoldable pub addField : ℕ → List Total → Field → List Total
-addField metal ts (Header m marks) = ts
-addField metal ts (PreviousClose instrument price) = ts
-addField metal ts (Trade time instrument price lots) = addTrade metal ts time instrument price lots
-addField metal ts (Quote time instrument sides bid offer) = ts
-addField metal ts (End count) = ts
+-- a trade that counts is added to its instrument's total
+unfoldable pub addCounted : List Total → Counted → List Total
+addCounted ts C.Nothing = ts
+addCounted ts (C.Trade instrument price lots) = set ts instrument (withTrade (getD ts instrument none) price lots)
+
+abbrev pub addField : ℕ → List Total → Field → List Total
+addField metal ts f = addCounted ts (countedOf metal f)
 
 -- ---- the pass goes on as the totals do
 
@@ -107,17 +113,17 @@ module _ (metal : ℕ) (fs : List Field) where
         by-test true e = let d = eqb-true instrument i e in trade-outside metal i time instrument price lots (sym (ap (λ (j : ℕ). inWindow (startOf metal j) time) d) ∙ w)
         by-test false e = trade-other metal i time instrument price lots (eqb-false instrument i e)
 
-    totals-trade : totalsOf metal (fs ++ (trade ∷ [])) ≡ addTrade metal (totalsOf metal fs) time instrument price lots
-    unfolding addTrade
+    totals-trade : totalsOf metal (fs ++ (trade ∷ [])) ≡ addField metal (totalsOf metal fs) trade
+    unfolding countedOf addCounted
     totals-trade = by-test (inWindow (startOf metal instrument) time) refl
       where
-        by-test : (b : Bool) → inWindow (startOf metal instrument) time ≡ b → totalsOf metal (fs ++ (trade ∷ [])) ≡ cond b changed (totalsOf metal fs)
+        by-test : (b : Bool) → inWindow (startOf metal instrument) time ≡ b → totalsOf metal (fs ++ (trade ∷ [])) ≡ addCounted (totalsOf metal fs) (cond b (C.Trade instrument price lots) C.Nothing)
         by-test true w = by-places trade changed (length-set (totalsOf metal fs) instrument _ ∙ totals-length metal fs) (each-place w)
         by-test false w = totals-same trade (no-place w)
 
 -- one field more, whatever it is
 pub totals-step : (metal : ℕ) (fs : List Field) (f : Field) → totalsOf metal (fs ++ (f ∷ [])) ≡ addField metal (totalsOf metal fs) f
-unfolding addField tradeIn
+unfolding countedOf addCounted tradeIn
 totals-step metal fs (Header m marks) = totals-same metal fs (Header m marks) (λ i. refl)
 totals-step metal fs (PreviousClose instrument price) = totals-same metal fs (PreviousClose instrument price) (λ i. refl)
 totals-step metal fs (Trade time instrument price lots) = totals-trade metal fs time instrument price lots
@@ -126,27 +132,38 @@ totals-step metal fs (End count) = totals-same metal fs (End count) (λ i. refl)
 
 -- ---- at the places of the code
 
--- a field that was found to be another's case
-pub field-by : (metal : ℕ) (ts : List Total) {f g : Field} {r : List Total} → f ≡ g → r ≡ addField metal ts g → r ≡ addField metal ts f
-field-by metal ts e h = h ∙ ap (addField metal ts) (sym e)
+-- a trade inside the window and outside it, as the code tests it
+module _ (metal : ℕ) {f : Field} {time instrument : ℕ} {price : Price} {lots : ℕ} (d : f ≡ Trade time instrument price lots) {start : ℕ} {b : Bool} (e : start ≡ startOf metal instrument) (w : b ≡ inWindow start time) where
+  tested : inWindow (startOf metal instrument) time ≡ b
+  tested = ap (λ (s : ℕ). inWindow s time) (sym e) ∙ sym w
 
--- a trade whose values are in their ranges is on an instrument
-pub field-on : {f : Field} {time instrument : ℕ} {price : Price} {lots : ℕ} → f ≡ Trade time instrument price lots → Sound 0 f → instrument ≤ 11
-field-on {time = time} {instrument = instrument} {price = price} {lots = lots} e h =
-    let t : SoundTrade 0 time instrument price lots = rw e at h in
-    t .stamp .instrument-in
+  pub counted-in : b ≡ true → C.Trade instrument price lots ≡ countedOf metal f
+  unfolding countedOf
+  counted-in h = sym (rw (d, tested, h) refl)
 
-module _ (metal : ℕ) (ts : List Total) (time instrument : ℕ) (price : Price) (lots : ℕ) {start : ℕ} {b : Bool} (e : start ≡ startOf metal instrument) (w : b ≡ inWindow start time) where
-  told : b ≡ inWindow (startOf metal instrument) time
-  told = w ∙ ap (λ (s : ℕ). inWindow s time) e
+  pub counted-out : b ≡ false → C.Nothing ≡ countedOf metal f
+  unfolding countedOf
+  counted-out h = sym (rw (d, tested, h) refl)
 
-  pub trade-added : {t : Total} → b ≡ true → t ≡ withTrade (getD ts instrument none) price lots → set ts instrument t ≡ addTrade metal ts time instrument price lots
-  unfolding addTrade
-  trade-added y k = rw (sym told ∙ y) (ap (set ts instrument) k)
+-- a field that is no trade
+pub counted-by : (metal : ℕ) {f g : Field} → f ≡ g → countedOf metal g ≡ countedOf metal f
+counted-by metal e = sym (ap (countedOf metal) e)
 
-  pub trade-passed : b ≡ false → ts ≡ addTrade metal ts time instrument price lots
-  unfolding addTrade
-  trade-passed n = rw (sym told ∙ n) refl
+-- a trade that counts is on an instrument, where the field's values are in their ranges
+on-by : (metal : ℕ) (f : Field) (instrument : ℕ) (price : Price) (lots : ℕ) → countedOf metal f ≡ C.Trade instrument price lots → Sound 0 f → instrument < 12
+unfolding countedOf
+on-by metal (Header m marks) instrument price lots e h = clash cc
+on-by metal (PreviousClose i p) instrument price lots e h = clash cc
+on-by metal (Trade time i p l) instrument price lots e h = by-test (inWindow (startOf metal i) time) e
+  where
+    by-test : (b : Bool) → cond b (C.Trade i p l) C.Nothing ≡ C.Trade instrument price lots → instrument < 12
+    by-test true g = let same : i ≡ instrument = cc in omega (arith, h .stamp .instrument-in)
+    by-test false g = clash cc
+on-by metal (Quote time i sides bid offer) instrument price lots e h = clash cc
+on-by metal (End count) instrument price lots e h = clash cc
+
+pub counted-on : (metal : ℕ) (f : Field) {r : Counted} {instrument : ℕ} {price : Price} {lots : ℕ} → r ≡ countedOf metal f → r ≡ C.Trade instrument price lots → Sound 0 f → instrument < 12
+counted-on metal f {r} {instrument} {price} {lots} e d h = on-by metal f instrument price lots (sym e ∙ d) h
 
 -- the loop: before it, at a field, behind that, and where no field stands
 pub totals-start : (metal : ℕ) (s : List ℕ) {ts : List Total} → ts ≡ noTrades → Sofar (totalsOf metal) s 0 ts
@@ -158,12 +175,24 @@ module _ (metal : ℕ) (s : List ℕ) (at : ℕ) (ts : List Total) (o : Sofar (t
       let b : length (o .before) ≤ 1048576 = omega (arith, o .short, o .within) in
       rw (o .same) (totals-small metal (o .before) 1048576 (sofar-each (totalsOf metal) s at ts o (Sound 0) h) b)
 
+  pub totals-small-at : Each (Sound 0) (fieldsOf s) → length s ≤ 1048576 → (i : ℕ) → Small 1048576 (getD ts i none)
+  totals-small-at h l i = totals-room h l i
+
   module _ {r : Read} (e : readSays r ≡ shapeAt s at) where
     pub totals-here : Each (Sound 0) (fieldsOf s) → {f : Field} {next : ℕ} → r ≡ R.Field f next → Sound 0 f
     totals-here h d = sofar-here (totalsOf metal) s at ts o e (Sound 0) h d
 
-    pub totals-next : {f : Field} {next : ℕ} {us : List Total} → r ≡ R.Field f next → us ≡ addField metal ts f → Sofar (totalsOf metal) s next us
-    totals-next d k = sofar-next (totalsOf metal) s at ts o e (addField metal) (totals-step metal) d k
+    module _ {f : Field} {next : ℕ} {c : Counted} (d : r ≡ R.Field f next) (k : c ≡ countedOf metal f) where
+      totals-next : Sofar (totalsOf metal) s next (addCounted ts c)
+      totals-next = sofar-next (totalsOf metal) s at ts o e (addField metal) (totals-step metal) d (ap (addCounted ts) k)
+
+      pub totals-more : {instrument : ℕ} {price : Price} {lots : ℕ} {t : Total} → c ≡ C.Trade instrument price lots → t ≡ withTrade (getD ts instrument none) price lots → Sofar (totalsOf metal) s next (set ts instrument t)
+      unfolding addCounted
+      totals-more {instrument} g h = rw h (subst (λ (x : Counted). Sofar (totalsOf metal) s next (addCounted ts x)) g totals-next)
+
+      pub totals-same-on : c ≡ C.Nothing → Sofar (totalsOf metal) s next ts
+      unfolding addCounted
+      totals-same-on g = subst (λ (x : Counted). Sofar (totalsOf metal) s next (addCounted ts x)) g totals-next
 
     pub totals-stop : {number place : ℕ} → r ≡ R.Refused number place → ts ≡ totalsOf metal (fieldsOf s)
     totals-stop d = sofar-stop (totalsOf metal) s at ts o e d

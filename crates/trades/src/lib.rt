@@ -6,7 +6,7 @@ ghost use Rattle.field.specs.Sound.{Sound};
 ghost use Rattle.sheet.specs.Fields.{fieldsOf, Each};
 ghost use Rattle.trades.specs.Trades.{noTrades, totalsOf, Told};
 ghost use Rattle.trades.specs.Laws.{Small, AllSmall};
-ghost use Rattle.trades.specs.Pass.{withTrade, addTrade, addField};
+ghost use Rattle.trades.specs.Pass.{withTrade, countedOf};
 use field::Field;
 use field::Price;
 use field::Read;
@@ -49,31 +49,19 @@ fn with_trade(total: Total, price: Price, lots: u16) -> Total
     }
 }
 
-// A trade, where it lies in its instrument's window, is added to that instrument's total.
-fn add_trade(
-    metal: u8,
-    totals: [Total; 12],
-    time: u32,
-    instrument: u8,
-    price: Price,
-    lots: u16,
-) -> [Total; 12]
-    requires { ⌜ AllSmall 1048576 totals × (instrument ≤ 11) ⌝ }
-    ensures { λ r. ⌜ r ≡ addTrade metal totals time instrument price lots ⌝ }
-{
-    if in_window(start_of(metal, instrument), time) {
-        let i = instrument as usize;
-        let mut changed = totals;
-        changed[i] = with_trade(totals[i], price, lots);
-        return changed;
-    }
-    totals
+// What a field adds to the totals: nothing, or a trade to its instrument's.
+pub enum Counted {
+    Nothing,
+    Trade {
+        instrument: u8,
+        price: Price,
+        lots: u16,
+    },
 }
 
-// A field that is a trade is added; no other field changes a total.
-fn add_field(metal: u8, totals: [Total; 12], field: Field) -> [Total; 12]
-    requires { ⌜ AllSmall 1048576 totals × Sound 0 field ⌝ }
-    ensures { λ r. ⌜ r ≡ addField metal totals field ⌝ }
+// A trade counts where it lies in its instrument's window; no other field does.
+fn count_field(metal: u8, field: Field) -> Counted
+    ensures { λ r. ⌜ r ≡ countedOf metal field ⌝ }
 {
     match field {
         Field::Trade {
@@ -81,20 +69,30 @@ fn add_field(metal: u8, totals: [Total; 12], field: Field) -> [Total; 12]
             instrument,
             price,
             lots,
-        } => add_trade(metal, totals, time, instrument, price, lots),
-        Field::Header { metal: _, marks: _ } => totals,
+        } => {
+            if in_window(start_of(metal, instrument), time) {
+                Counted::Trade {
+                    instrument,
+                    price,
+                    lots,
+                }
+            } else {
+                Counted::Nothing
+            }
+        }
+        Field::Header { metal: _, marks: _ } => Counted::Nothing,
         Field::PreviousClose {
             instrument: _,
             price: _,
-        } => totals,
+        } => Counted::Nothing,
         Field::Quote {
             time: _,
             instrument: _,
             sides: _,
             bid: _,
             offer: _,
-        } => totals,
-        Field::End { count: _ } => totals,
+        } => Counted::Nothing,
+        Field::End { count: _ } => Counted::Nothing,
     }
 }
 
@@ -108,8 +106,17 @@ fn totals_of(sheet: &[u8], metal: u8) -> [Total; 12]
     loop {
         match shape_at(sheet, at) {
             Read::Field(field, next) => {
-                let added = add_field(metal, totals, field);
-                totals = added;
+                match count_field(metal, field) {
+                    Counted::Trade {
+                        instrument,
+                        price,
+                        lots,
+                    } => {
+                        let i = instrument as usize;
+                        totals[i] = with_trade(totals[i], price, lots);
+                    }
+                    Counted::Nothing => {}
+                }
                 at = next;
             }
             Read::Refused(_, _) => {
