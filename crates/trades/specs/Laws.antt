@@ -214,7 +214,7 @@ module _ (metal i : ℕ) where
 -- ---- a trade takes 14 bytes of a sheet
 
 -- the tag of a body that is a trade
-tag-three : (tag : ℕ) (b : List ℕ) {time instrument : ℕ} {price : Price} {lots : ℕ} → fieldOf tag b ≡ Trade time instrument price lots → tag ≡ 3
+pub tag-three : (tag : ℕ) (b : List ℕ) {time instrument : ℕ} {price : Price} {lots : ℕ} → fieldOf tag b ≡ Trade time instrument price lots → tag ≡ 3
 unfolding fieldOf
 tag-three tag b {time} {instrument} {price} {lots} = by-one (eqb tag 1)
   where

@@ -11,28 +11,32 @@ use lib.Dec.{eqb}
 use lib.IntN.{ℤ, pos, _+ℤ_, _*ℤ_, +ℤ-idr}
 use lib.ListN.{length, getD, set, length-set}
 use lib.Seq.{ext-getD, getD-set-same, getD-set-other}
+use mir.Syntax.{w64}
+use mir.Val.{Fits}
 use Rattle.field.specs.declared.Price.{Price}
 use Rattle.field.specs.declared.Field.{Field}
 use Rattle.field.specs.declared.Field.the-variants.{Header, PreviousClose, Trade, Quote, End}
-use Rattle.field.specs.declared.Read.{Read}
 use Rattle.field.specs.declared.Read.the-variants as R
-use Rattle.field.specs.Said.{readSays}
-use Rattle.field.specs.Reading.{shapeAt}
-use Rattle.field.specs.Laws.{clash}
+use Rattle.field.specs.Layout.{sizeOf, fieldOf}
+use Rattle.field.specs.Said.{gives}
+use Rattle.field.specs.Reading.{bodyAt, shapeAt}
+use Rattle.field.specs.Laws.{clash, Headed, Shaped, shaped}
 use Rattle.field.specs.Sound.{Sound}
 use Rattle.market.specs.Market.{startOf, inWindow}
 use Rattle.sheet.specs.declared.Day.{Day}
 use Rattle.sheet.specs.declared.Judged.{Judged}
 use Rattle.sheet.specs.declared.Judged.the-variants as J
-use Rattle.sheet.specs.Fields.{fieldsOf, Each}
+use Rattle.sheet.specs.Fields.{fieldsAt, fieldsOf, Each}
 use Rattle.sheet.specs.Judgement.{accepts, judgeSheet, judgedSays}
-use Rattle.sheet.specs.Accepted.{accepted-sound, accepted-small}
+use Rattle.sheet.specs.Walk.{fields-gave, shape-past}
+use Rattle.sheet.specs.Led.{Stood, here, then}
+use Rattle.sheet.specs.Accepted.{accepted-stood, accepted-sound, accepted-small}
 use Rattle.sheet.specs.Passes.{Sofar, sofar-start, sofar-each, sofar-here, sofar-next, sofar-stop}
 use Rattle.trades.specs.declared.Total.{Total}
 use Rattle.trades.specs.declared.Counted.{Counted}
 use Rattle.trades.specs.declared.Counted.the-variants as C
 use Rattle.trades.specs.Trades.{tradeIn, tradesIn, lotsIn, valueIn, totalOf, totalsOf, none, noTrades, totalsBy, Told}
-use Rattle.trades.specs.Laws.{Small, same-total, join-none, total-append, trade-other, trade-outside, trade-inside, AllSmall, totals-length, totals-at, totals-none, totals-small}
+use Rattle.trades.specs.Laws.{Small, same-total, join-none, total-append, trade-other, trade-outside, trade-inside, tag-three, totals-length, totals-at, totals-none, totals-small}
 
 -- a total with one trade more
 abbrev pub withTrade : Total → Price → ℕ → Total
@@ -165,37 +169,105 @@ on-by metal (End count) instrument price lots e h = clash cc
 pub counted-on : (metal : ℕ) (f : Field) {r : Counted} {instrument : ℕ} {price : Price} {lots : ℕ} → r ≡ countedOf metal f → r ≡ C.Trade instrument price lots → Sound 0 f → instrument < 12
 counted-on metal f {r} {instrument} {price} {lots} e d h = on-by metal f instrument price lots (sym e ∙ d) h
 
--- the loop: before it, at a field, behind that, and where no field stands
-pub totals-start : (metal : ℕ) (s : List ℕ) {ts : List Total} → ts ≡ noTrades → Sofar (totalsOf metal) s 0 ts
-totals-start metal s e = sofar-start (totalsOf metal) s (e ∙ sym (totals-none metal))
+-- ---- the pass over a sheet that fields fill
 
-module _ (metal : ℕ) (s : List ℕ) (at : ℕ) (ts : List Total) (o : Sofar (totalsOf metal) s at ts) where
-  pub totals-room : Each (Sound 0) (fieldsOf s) → length s ≤ 1048576 → AllSmall 1048576 ts
-  totals-room h l =
-      let b : length (o .before) ≤ 1048576 = omega (arith, o .short, o .within) in
-      rw (o .same) (totals-small metal (o .before) 1048576 (sofar-each (totalsOf metal) s at ts o (Sound 0) h) b)
+-- fields stand one after the other up to its end, and their values are in their ranges
+pub record Filled (s : List ℕ) : Type 0 where
+  pub stood : Stood s 0 (fieldsOf s) (length s)
+  pub sound : Each (Sound 0) (fieldsOf s)
 
-  pub totals-small-at : Each (Sound 0) (fieldsOf s) → length s ≤ 1048576 → (i : ℕ) → Small 1048576 (getD ts i none)
-  totals-small-at h l i = totals-room h l i
+-- at a place of the sheet: the totals are those of the fields before it, and fields stand from there to the end
+pub record Passing (metal : ℕ) (s : List ℕ) (at : ℕ) (ts : List Total) : Type 0 where
+  pub sofar : Sofar (totalsOf metal) s at ts
+  pub stood : Stood s at (fieldsAt s at) (length s)
 
-  module _ {r : Read} (e : readSays r ≡ shapeAt s at) where
-    pub totals-here : Each (Sound 0) (fieldsOf s) → {f : Field} {next : ℕ} → r ≡ R.Field f next → Sound 0 f
-    totals-here h d = sofar-here (totalsOf metal) s at ts o e (Sound 0) h d
+pub pass-start : (metal : ℕ) (s : List ℕ) {ts : List Total} → Filled s → ts ≡ noTrades → Passing metal s 0 ts
+pass-start metal s f e = record { sofar = sofar-start (totalsOf metal) s (e ∙ sym (totals-none metal)); stood = f .stood }
 
-    module _ {f : Field} {next : ℕ} {c : Counted} (d : r ≡ R.Field f next) (k : c ≡ countedOf metal f) where
-      totals-next : Sofar (totalsOf metal) s next (addCounted ts c)
-      totals-next = sofar-next (totalsOf metal) s at ts o e (addField metal) (totals-step metal) d (ap (addCounted ts) k)
+-- before the end a field stands there, and behind it they go on
+record Here (s : List ℕ) (at : ℕ) : Type 0 where
+  field : Field
+  next : ℕ
+  shape : shapeAt s at ≡ gives field next
+  rest : Stood s next (fieldsAt s next) (length s)
 
-      pub totals-more : {instrument : ℕ} {price : Price} {lots : ℕ} {t : Total} → c ≡ C.Trade instrument price lots → t ≡ withTrade (getD ts instrument none) price lots → Sofar (totalsOf metal) s next (set ts instrument t)
-      unfolding addCounted
-      totals-more {instrument} g h = rw h (subst (λ (x : Counted). Sofar (totalsOf metal) s next (addCounted ts x)) g totals-next)
+here-at : (s : List ℕ) (at end : ℕ) (fs : List Field) → Stood s at fs end → fs ≡ fieldsAt s at → end ≡ length s → at < length s → Here s at
+here-at s at end fs here e g l = absurd (omega arith)
+here-at s at end fs (then {next = next} {f = f} {fs = more} d t) e g l =
+    let same : more ≡ fieldsAt s next = tail-same (e ∙ fields-gave s at d) in
+    record { field = f; next = next; shape = d; rest = rw (sym same, sym g) t }
+  where
+    tail-same : {a b : Field} {xs ys : List Field} → a ∷ xs ≡ b ∷ ys → xs ≡ ys
+    tail-same h = cc
 
-      pub totals-same-on : c ≡ C.Nothing → Sofar (totalsOf metal) s next ts
-      unfolding addCounted
-      totals-same-on g = subst (λ (x : Counted). Sofar (totalsOf metal) s next (addCounted ts x)) g totals-next
+module _ (metal : ℕ) (s : List ℕ) (at : ℕ) (ts : List Total) (o : Passing metal s at ts) where
+  -- behind the last field
+  pub pass-done : length s ≤ at → ts ≡ totalsOf metal (fieldsOf s)
+  pass-done l = sofar-stop (totalsOf metal) s at ts (o .sofar) {r = R.Refused 2 at} (sym (shape-past s at l)) refl
 
-    pub totals-stop : {number place : ℕ} → r ≡ R.Refused number place → ts ≡ totalsOf metal (fieldsOf s)
-    totals-stop d = sofar-stop (totalsOf metal) s at ts o e d
+  pub pass-small : Filled s → length s ≤ 1048576 → (i : ℕ) → Small 1048576 (getD ts i none)
+  pass-small f l i =
+      let b : length (o .sofar .before) ≤ 1048576 = omega (arith, o .sofar .short, o .sofar .within) in
+      rw (o .sofar .same) (totals-small metal (o .sofar .before) 1048576 (sofar-each (totalsOf metal) s at ts (o .sofar) (Sound 0) (f .sound)) b i)
+
+  module _ (l : at < length s) where
+    place : Here s at
+    place = here-at s at (length s) (fieldsAt s at) (o .stood) refl refl l
+
+    shape : Shaped s at (place .field) (place .next)
+    shape = shaped s at (place .field) (place .next) (place .shape)
+
+    module _ {tag : ℕ} (k : tag ≡ getD s at 0) where
+      pub pass-headed : Headed s at tag
+      pass-headed = rw k (shape .head)
+
+      -- the place behind the field
+      behind : {n : ℕ} → n ≡ sizeOf tag → place .next ≡ at + n
+      behind e = sym (shape .behind) ∙ ap (λ (x : ℕ). at + sizeOf x) (sym k) ∙ ap (λ (x : ℕ). at + x) (sym e)
+
+      pub pass-inside : {n : ℕ} → n ≡ sizeOf tag → at + n ≤ length s
+      pass-inside e = omega (arith, pass-headed .whole)
+
+      pub pass-fits : {n : ℕ} → n ≡ sizeOf tag → length s ≤ 1048576 → Fits w64 (at + n)
+      pass-fits e h = record { fits = omega (arith, pass-inside e) }
+
+      -- it is the one that the code reads there
+      field-is : {f : Field} → f ≡ fieldOf tag (bodyAt s at tag) → place .field ≡ f
+      field-is e = sym (shape .values) ∙ ap (λ (x : ℕ). fieldOf x (bodyAt s at x)) (sym k) ∙ sym e
+
+      pub pass-sound : {f : Field} → f ≡ fieldOf tag (bodyAt s at tag) → Filled s → Sound 0 f
+      pass-sound {f} e g = subst (Sound 0) (field-is e) (sofar-here (totalsOf metal) s at ts (o .sofar) {r = R.Field (place .field) (place .next)} (sym (place .shape)) (Sound 0) (g .sound) refl)
+
+      -- behind it, with what it counts
+      on-with : (c : Counted) → c ≡ countedOf metal (place .field) → {n : ℕ} → n ≡ sizeOf tag → Passing metal s (at + n) (addCounted ts c)
+      on-with c g e = rw (sym (behind e)) (record {
+        sofar = sofar-next (totalsOf metal) s at ts (o .sofar) {r = R.Field (place .field) (place .next)} (sym (place .shape)) (addField metal) (totals-step metal) refl (ap (addCounted ts) g);
+        stood = place .rest;
+      })
+
+      module _ {f : Field} {c : Counted} (d : f ≡ fieldOf tag (bodyAt s at tag)) (g : c ≡ countedOf metal f) where
+        found : c ≡ countedOf metal (place .field)
+        found = g ∙ ap (countedOf metal) (sym (field-is d))
+
+        pub pass-trade : {instrument : ℕ} {price : Price} {lots : ℕ} {t : Total} {n : ℕ} → c ≡ C.Trade instrument price lots → t ≡ withTrade (getD ts instrument none) price lots → n ≡ sizeOf tag → Passing metal s (at + n) (set ts instrument t)
+        unfolding addCounted
+        pass-trade {n = n} h u e = rw u (subst (λ (x : Counted). Passing metal s (at + n) (addCounted ts x)) h (on-with c found e))
+
+        pub pass-nothing : {n : ℕ} → c ≡ C.Nothing → n ≡ sizeOf tag → Passing metal s (at + n) ts
+        unfolding addCounted
+        pass-nothing {n} h e = subst (λ (x : Counted). Passing metal s (at + n) (addCounted ts x)) h (on-with c found e)
+
+      -- a field under another tag is no trade
+      pub pass-other : {n : ℕ} → (tag ≡ 3 → ⊥) → n ≡ sizeOf tag → Passing metal s (at + n) ts
+      unfolding addCounted countedOf
+      pass-other h e = on-with C.Nothing (no-trade (place .field) (shape .values)) e
+        where
+          no-trade : (f : Field) → fieldOf (getD s at 0) (bodyAt s at (getD s at 0)) ≡ f → C.Nothing ≡ countedOf metal f
+          no-trade (Header m marks) v = refl
+          no-trade (PreviousClose instrument price) v = refl
+          no-trade (Trade time instrument price lots) v = absurd (h (k ∙ tag-three (getD s at 0) _ v))
+          no-trade (Quote time instrument sides bid offer) v = refl
+          no-trade (End count) v = refl
 
 -- the judgement: what is known where it accepts, and what is told of the sheet
 module _ (s : List ℕ) {j : Judged} (e : judgedSays j ≡ judgeSheet s) where
@@ -203,8 +275,8 @@ module _ (s : List ℕ) {j : Judged} (e : judgedSays j ≡ judgeSheet s) where
     accepted : judgeSheet s ≡ accepts day
     accepted = sym e ∙ ap judgedSays d
 
-    pub known-sound : Each (Sound 0) (fieldsOf s)
-    known-sound = accepted-sound s day accepted
+    pub known-filled : Filled s
+    known-filled = record { stood = accepted-stood s day accepted; sound = accepted-sound s day accepted }
 
     pub known-short : length s ≤ 1048576
     known-short = accepted-small s day accepted

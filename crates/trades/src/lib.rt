@@ -2,17 +2,19 @@
 ghost use mathlib.Core.Path.{_≡_};
 ghost use Prim.Native.Nat.{_≤_};
 ghost use lib.ListN.{length};
-ghost use Rattle.field.specs.Sound.{Sound};
-ghost use Rattle.sheet.specs.Fields.{fieldsOf, Each};
+ghost use Rattle.field.specs.Layout.{fieldOf};
+ghost use Rattle.field.specs.Reading.{bodyAt};
+ghost use Rattle.field.specs.Laws.{Headed};
+ghost use Rattle.sheet.specs.Fields.{fieldsOf};
 ghost use Rattle.trades.specs.Trades.{noTrades, totalsOf, Told};
 ghost use Rattle.trades.specs.Laws.{Small, AllSmall};
-ghost use Rattle.trades.specs.Pass.{withTrade, countedOf};
+ghost use Rattle.trades.specs.Pass.{withTrade, countedOf, Filled};
+use decoder::field_of;
 use field::Field;
 use field::Price;
-use field::Read;
+use field::layout::size_of;
 use market::in_window;
 use market::start_of;
-use reader::shape_at;
 use sheet::Judged;
 use sheet::judge_sheet;
 
@@ -21,6 +23,9 @@ pub struct Total {
     pub lots: u64,
     pub value: i64,
 }
+
+// A trade's tag.
+const TRADE: u8 = 3;
 
 // The judgement of a sheet, and its totals by instrument, 0 to 11.
 pub struct Traded {
@@ -96,34 +101,42 @@ fn count_field(metal: u8, field: Field) -> Counted
     }
 }
 
-// The totals of a sheet whose values are in their ranges.
+// The field whose head and body are known to stand at a place.
+fn field_here(sheet: &[u8], at: usize, tag: u8) -> Field
+    requires { ⌜ Headed (now sheet) at tag ⌝ }
+    ensures { λ r. ⌜ r ≡ fieldOf tag (bodyAt (now (sheet .entry)) at tag) ⌝ }
+{
+    let start = at + 3;
+    let next = at + size_of(tag);
+    field_of(tag, &sheet[start..next])
+}
+
+// The totals of a sheet that fields fill to its end, their values in their ranges: only trades are looked into.
 fn totals_of(sheet: &[u8], metal: u8) -> [Total; 12]
-    requires { ⌜ Each (Sound 0) (fieldsOf (now sheet)) × (length (now sheet) ≤ 1048576) ⌝ }
+    requires { ⌜ Filled (now sheet) × (length (now sheet) ≤ 1048576) ⌝ }
     ensures { λ r. ⌜ r ≡ totalsOf metal (fieldsOf (now (sheet .entry))) ⌝ }
 {
     let mut totals = no_trades();
     let mut at = 0;
-    loop {
-        match shape_at(sheet, at) {
-            Read::Field(field, next) => {
-                match count_field(metal, field) {
-                    Counted::Trade {
-                        instrument,
-                        price,
-                        lots,
-                    } => {
-                        let i = instrument as usize;
-                        totals[i] = with_trade(totals[i], price, lots);
-                    }
-                    Counted::Nothing => {}
+    while at < sheet.len() {
+        let tag = sheet[at];
+        let next = at + size_of(tag);
+        if tag == TRADE {
+            match count_field(metal, field_here(sheet, at, tag)) {
+                Counted::Trade {
+                    instrument,
+                    price,
+                    lots,
+                } => {
+                    let i = instrument as usize;
+                    totals[i] = with_trade(totals[i], price, lots);
                 }
-                at = next;
-            }
-            Read::Refused(_, _) => {
-                return totals;
+                Counted::Nothing => {}
             }
         }
+        at = next;
     }
+    totals
 }
 
 // Judges a sheet, and where it is accepted gives the totals of its trades; where it is refused all totals are zero.

@@ -1,10 +1,10 @@
 -- `trades::totals` meets its contract: an accepted sheet is short, and its values are in their ranges. Assumes nothing.
 use borrow.Author.Needs.{needs}
-use Rattle.trades.specs.Pass.{known-sound, known-short, told-accepted, told-refused}
+use Rattle.trades.specs.Pass.{known-filled, known-short, told-accepted, told-refused}
 use Rattle.trades.proofs.totals.Statement.{statement}
 use Rattle.trades.proofs.totals.Tie as tie
 
-ruleset judging = (known-sound, known-short, told-accepted, told-refused, needs)
+ruleset judging = (known-filled, known-short, told-accepted, told-refused, needs)
 
 judge-sheet-requires : tie.Need-judge-sheet-requires
 judge-sheet-requires c κs = search judging

@@ -1,16 +1,14 @@
 -- `trades::totals_of` meets its contract: at each place the totals are those of the fields before it. Assumes nothing.
 use borrow.Author.Needs.{needs}
-use Rattle.sheet.specs.Walk.{left, less-read}
-use Rattle.sheet.specs.Passes.{Sofar}
-use Rattle.trades.specs.Trades.{totalsOf}
-use Rattle.trades.specs.Pass.{totals-start, totals-room, totals-here, totals-more, totals-same-on, counted-on, totals-small-at, totals-stop}
+use Rattle.sheet.specs.Walk.{left}
+use Rattle.trades.specs.Pass.{Passing, pass-start, pass-done, pass-small, pass-headed, pass-inside, pass-fits, pass-sound, pass-trade, pass-nothing, pass-other, counted-on}
 use Rattle.trades.proofs.totals_of.Statement.{statement}
 use Rattle.trades.proofs.totals_of.Tie as tie
 
-ruleset adding = (totals-start, totals-room, totals-here, totals-more, totals-same-on, counted-on, totals-small-at, totals-stop, less-read, needs)
+ruleset adding = (pass-start, pass-done, pass-small, pass-headed, pass-inside, pass-fits, pass-sound, pass-trade, pass-nothing, pass-other, counted-on, needs)
 
 abbrev Inv-loop : tie.InvT-loop
-Inv-loop sheet metal totals₀ at₀ totals at = Sofar (totalsOf metal) sheet at totals
+Inv-loop sheet metal totals₀ at₀ totals at = Passing metal sheet at totals
 
 abbrev μ-loop : tie.MeasureT-loop
 μ-loop sheet metal totals₀ at₀ totals at = left sheet at
@@ -21,11 +19,17 @@ no-trades-requires c κs = search adding
 loop-holds : tie.Need-loop-holds Inv-loop μ-loop
 loop-holds c = search adding
 
-shape-at-requires : tie.Need-shape-at-requires Inv-loop μ-loop
-shape-at-requires c κs = search adding
+shared-slice-read-tag : tie.Need-shared-slice-read-tag Inv-loop μ-loop
+shared-slice-read-tag c = search adding
 
-enum-known-field : tie.Need-enum-known-field Inv-loop μ-loop
-enum-known-field c = search adding
+size-of-requires : tie.Need-size-of-requires Inv-loop μ-loop
+size-of-requires c κs = search adding
+
+add-next : tie.Need-add-next Inv-loop μ-loop
+add-next c = search adding
+
+field-here-requires : tie.Need-field-here-requires Inv-loop μ-loop
+field-here-requires c κs = search adding
 
 count-field-requires : tie.Need-count-field-requires Inv-loop μ-loop
 count-field-requires c κs = search adding
@@ -66,8 +70,11 @@ loop-less-2 c = search adding
 loop-again-2 : tie.Need-loop-again-2 Inv-loop μ-loop
 loop-again-2 c = search adding
 
-enum-told-2 : tie.Need-enum-told-2 Inv-loop μ-loop
-enum-told-2 c = search adding
+loop-less-3 : tie.Need-loop-less-3 Inv-loop μ-loop
+loop-less-3 c = search adding
+
+loop-again-3 : tie.Need-loop-again-3 Inv-loop μ-loop
+loop-again-3 c = search adding
 
 returns : tie.Need-returns Inv-loop μ-loop
 returns c = search adding
@@ -80,8 +87,10 @@ totals-of-spec =
     μ-loop
     no-trades-requires
     loop-holds
-    shape-at-requires
-    enum-known-field
+    shared-slice-read-tag
+    size-of-requires
+    add-next
+    field-here-requires
     count-field-requires
     enum-known-instrument
     cast-i
@@ -95,5 +104,6 @@ totals-of-spec =
     loop-again
     loop-less-2
     loop-again-2
-    enum-told-2
+    loop-less-3
+    loop-again-3
     returns)
