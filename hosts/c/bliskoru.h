@@ -1,0 +1,164 @@
+/*
+ * Bliskoru for C and C++: a day sheet's closing list, its judgement and its six answers, and single fields read and written.
+ *
+ * Link with target/staticlib/libbliskoru.a, which `rt staticlib bliskoru` writes. It needs memcpy and memset and nothing else.
+ * The numbers, ranges and layouts are document 01's; docs/SHEET.md has the sheet, docs/HOSTS.md how to embed this.
+ *
+ * For every function:
+ *  - It keeps nothing between calls, takes no memory of its own but the stack, and may be called from any number of threads at once.
+ *  - No pointer may be null, even where the length behind it is 0: an empty sheet or buffer is any pointer that is not null, with length 0.
+ *  - What is lent to be written (out, at, answers, values, next, buffer) must not overlap with anything else that is lent to the same call,
+ *    and has its type's alignment.
+ *  - What is not said to be written stays as it was, byte for byte. A sheet is never written.
+ *
+ * These declarations are not checked against the proved source by any prover; hosts/c/edges.c calls each of them at its edges.
+ */
+#ifndef BLISKORU_H
+#define BLISKORU_H
+
+#include <stddef.h>
+#include <stdint.h>
+
+#ifdef __cplusplus
+extern "C" {
+#endif
+
+/* What a function says: yes, or document 01's number of the refusal. */
+enum bliskoru_number {
+    BLISKORU_YES = 0,
+    BLISKORU_SHEET_TOO_LONG = 1,      /* the sheet is longer than 1,048,576 bytes */
+    BLISKORU_BYTES_MISSING = 2,       /* fewer bytes remain than the field head or body needs, or no end field was met */
+    BLISKORU_TAG = 3,                 /* tag not 1 to 5 */
+    BLISKORU_LENGTH = 4,              /* length not the tag's */
+    BLISKORU_OUT_OF_PLACE = 5,        /* field out of its place, or bytes after the end field */
+    BLISKORU_METAL_OR_MARKS = 6,      /* metal not 1 to 5, or a mark above bit 10 */
+    BLISKORU_INSTRUMENT = 7,          /* instrument above 11 */
+    BLISKORU_TIME = 8,                /* time above 86,399,999, or (in a whole sheet) below the time before it */
+    BLISKORU_PRICE = 9,               /* price out of range: 1 to 99,999,999 outright, -9,999,999 to 9,999,999 for a spread */
+    BLISKORU_LOTS = 10,               /* lots not 1 to 10,000 */
+    BLISKORU_SIDES = 11,              /* sides above 3, an absent side not zero, or bid above offer */
+    BLISKORU_END_COUNT = 12,          /* end count wrong */
+    BLISKORU_NO_REFERENCE = 13,       /* contract: below 5 lots, and no reference at the window's first millisecond */
+    BLISKORU_CLOSE_OUT_OF_RANGE = 14, /* contract: the rounded close is outside 1 to 99,999,999 */
+    BLISKORU_NOT_REACHED = 15,        /* contract: an earlier one was refused */
+    BLISKORU_DOES_NOT_FIT = 16        /* writer: the place is past the buffer or the field doesn't fit behind it */
+};
+
+/* How a contract was priced: the first number of its row. A refused contract has 13, 14 or 15 there. */
+enum bliskoru_method {
+    BLISKORU_VWAP = 1,
+    BLISKORU_TWAP = 2
+};
+
+/* The rows of the answers, in pricing order: contract k has the numbers 3k, 3k + 1 and 3k + 2. */
+enum bliskoru_contract {
+    BLISKORU_3M = 0,
+    BLISKORU_M3 = 1,
+    BLISKORU_M2 = 2,
+    BLISKORU_M4 = 3,
+    BLISKORU_M1 = 4,
+    BLISKORU_CASH = 5
+};
+
+/* A field's tag: the first of its six numbers. */
+enum bliskoru_tag {
+    BLISKORU_HEADER = 1,
+    BLISKORU_PREVIOUS_CLOSE = 2,
+    BLISKORU_TRADE = 3,
+    BLISKORU_QUOTE = 4,
+    BLISKORU_END = 5
+};
+
+/* Bits of a quote's sides. */
+enum bliskoru_side {
+    BLISKORU_BID = 1,
+    BLISKORU_OFFER = 2
+};
+
+#define BLISKORU_LONGEST_SHEET 1048576  /* bytes; a longer sheet is refused with 1 */
+#define BLISKORU_LONGEST_LISTED 65536   /* bytes; the list of a longer sheet is the line `too long` */
+#define BLISKORU_LIST_ROOM 512          /* bytes; no list is longer */
+#define BLISKORU_ANSWERS 18             /* six rows of three numbers */
+#define BLISKORU_VALUES 6               /* a field's tag and values */
+#define BLISKORU_LONGEST_FIELD 17       /* bytes of a quote; header 6, previous close 8, trade 14, end 7 */
+
+/*
+ * The closing list of a sheet, as text: the metal's name and six lines, or `refused`, number and byte, or `too long` for a sheet of more than
+ * 65,536 bytes. A line feed stands after every line, and no zero byte behind them.
+ *   sheet, sheet_len  the sheet
+ *   out, out_len      where the list goes; BLISKORU_LIST_ROOM bytes are always enough
+ * Yes: the list's length, which is never 0. The list stands at the start of out, and the bytes of out behind it stay as they were.
+ * No:  0. The list is longer than out_len, and out stays as it was.
+ */
+size_t bliskoru_list(const uint8_t *sheet, size_t sheet_len, uint8_t *out, size_t out_len);
+
+/*
+ * Is this a sheet?
+ *   sheet, sheet_len  the sheet
+ *   at                the refusal's byte
+ * Yes: 0. *at stays as it was.
+ * No:  1 to 12. *at is the byte at which the field starts that earned it (1: 0; missing end: sheet_len; bytes after the end: the first of them).
+ */
+uint8_t bliskoru_judge(const uint8_t *sheet, size_t sheet_len, size_t *at);
+
+/*
+ * The six answers of a sheet.
+ *   sheet, sheet_len  the sheet
+ *   answers           BLISKORU_ANSWERS numbers: for 3M, M3, M2, M4, M1 and Cash in turn
+ *                       1 VWAP, 2 TWAP, or the contract's refusal 13 to 15;
+ *                       the close in cents, 1 to 99,999,999, or 0 where it is refused;
+ *                       the lots, the sum over its VWAP instruments in the window, 0 with 15
+ *   at                the refusal's byte
+ * Yes: 0, also where contracts are refused. All of answers is written, and *at stays as it was.
+ * No:  1 to 12, as bliskoru_judge says it. *at is the byte, and answers stays as it was.
+ */
+uint8_t bliskoru_answers(const uint8_t *sheet, size_t sheet_len, uint64_t *answers, size_t *at);
+
+/*
+ * One field, whatever stands before or behind it.
+ *   sheet, sheet_len  the bytes it stands in, of any length
+ *   at                the place at which it starts; any number
+ *   values            BLISKORU_VALUES numbers: the tag, then the values in the order of its body, then zeros
+ *                       header          1, metal, marks, 0, 0, 0
+ *                       previous close  2, instrument, cents, 0, 0, 0
+ *                       trade           3, time, instrument, cents, lots, 0
+ *                       quote           4, time, instrument, sides, bid, offer
+ *                       end             5, count, 0, 0, 0, 0
+ *   next              the place behind the field
+ * Yes: 0. All of values and *next are written.
+ * No:  2, 3, 4 or 6 to 11 (8 for the range only). values and *next stay as they were. At a place past the end: 2.
+ */
+uint8_t bliskoru_read(const uint8_t *sheet, size_t sheet_len, size_t at, int64_t *values, size_t *next);
+
+/*
+ * Each of the five writes one field.
+ *   buffer, buffer_len  where it goes
+ *   at                  the place at which it starts; any number
+ *   next                the place behind the field
+ * Yes: 0. The field's bytes stand at `at`, the others of buffer stay as they were, and *next is the place behind the field.
+ * No:  the number that the values earn, or 16 where they earn none and the field doesn't fit. buffer and *next stay as they were.
+ * Places, falling times and end counts are judged over the whole sheet, not here.
+ */
+
+/* 6 bytes; 6 or 16. metal: 1 Nickel, 2 Aluminium, 3 Zinc, 4 Copper, 5 Lead. marks: bit i-1 where spread i is quoted reversed. */
+uint8_t bliskoru_write_header(uint8_t *buffer, size_t buffer_len, size_t at, uint8_t metal, uint16_t marks, size_t *next);
+
+/* 8 bytes; 7, 9 or 16. instrument: 0 is 3M outright, 1 to 11 are the spreads. cents: the price. */
+uint8_t bliskoru_write_previous_close(uint8_t *buffer, size_t buffer_len, size_t at, uint8_t instrument, int32_t cents, size_t *next);
+
+/* 14 bytes; 7, 8, 9, 10 or 16. time: milliseconds of the day. */
+uint8_t bliskoru_write_trade(uint8_t *buffer, size_t buffer_len, size_t at, uint32_t time, uint8_t instrument, int32_t cents, uint16_t lots,
+                             size_t *next);
+
+/* 17 bytes; 7, 8, 9, 11 or 16. sides: bit 0 bid, bit 1 offer. bid, offer: cents, and 0 for the side that is absent. */
+uint8_t bliskoru_write_quote(uint8_t *buffer, size_t buffer_len, size_t at, uint32_t time, uint8_t instrument, uint8_t sides, int32_t bid,
+                             int32_t offer, size_t *next);
+
+/* 7 bytes; 16. count: of the fields before it, the header included. */
+uint8_t bliskoru_write_end(uint8_t *buffer, size_t buffer_len, size_t at, uint32_t count, size_t *next);
+
+#ifdef __cplusplus
+}
+#endif
+
+#endif

@@ -1,0 +1,35 @@
+//! Closing prices of a day sheet's six contracts, and single fields of a sheet, by the proved library Bliskoru.
+//!
+//! * [`list`], [`list_into`]: the closing list as text
+//! * [`judge`]: is this a sheet, and if not, why and at which byte
+//! * [`answers`]: price, method and lots of each contract, or why there is none
+//! * [`read_field`], [`write_field`]: one field at a place
+//! * [`raw`]: the functions of the archive as they are
+//!
+//! Nothing is kept between calls, so every function may be called from any number of threads at once.
+//!
+//! ```
+//! use bliskoru::{judge, write_field, Field, Reason};
+//!
+//! let mut sheet = [0; 13];
+//! let at = write_field(&mut sheet, 0, &Field::Header { metal: 4, marks: 0 })?;
+//! let at = write_field(&mut sheet, at, &Field::End { count: 1 })?;
+//! assert_eq!(at, 13);
+//! assert_eq!(judge(&sheet), Ok(()));
+//! assert_eq!(judge(&sheet[..12]).map_err(|no| (no.reason, no.byte)), Err((Reason::BytesMissing, 6)));
+//! # Ok::<(), Reason>(())
+//! ```
+
+#![deny(unsafe_op_in_unsafe_fn)]
+#![deny(missing_docs)]
+
+mod answer;
+mod field;
+pub mod raw;
+mod reason;
+mod sheet;
+
+pub use answer::{Answer, Contract, Method, CONTRACTS};
+pub use field::{read_field, write_field, Field, BID, OFFER};
+pub use reason::{Reason, Refusal};
+pub use sheet::{answers, judge, list, list_into, LIST_ROOM, LONGEST_LISTED, LONGEST_SHEET};

@@ -1,0 +1,132 @@
+//! Why something was refused: document 01's numbers.
+
+use std::error::Error;
+use std::fmt;
+
+/// Document 01's numbers.
+#[derive(Clone, Copy, Debug, PartialEq, Eq, PartialOrd, Ord, Hash)]
+#[repr(u8)]
+pub enum Reason {
+    /// The sheet is longer than 1,048,576 bytes.
+    SheetTooLong = 1,
+    /// Fewer bytes remain than the field head or body needs, or no end field was met.
+    BytesMissing = 2,
+    /// The tag is not 1 to 5.
+    Tag = 3,
+    /// The length is not the tag's.
+    Length = 4,
+    /// The field is out of its place, or bytes stand after the end field.
+    OutOfPlace = 5,
+    /// The metal is not 1 to 5, or a mark is above bit 10.
+    MetalOrMarks = 6,
+    /// The instrument is above 11.
+    Instrument = 7,
+    /// The time is above its range or, in a whole sheet, below the time before it.
+    Time = 8,
+    /// A price is out of its range.
+    Price = 9,
+    /// The lots are out of their range.
+    Lots = 10,
+    /// The sides are above 3, an absent side is not zero, or the bid is above the offer.
+    Sides = 11,
+    /// The end field's count is wrong.
+    EndCount = 12,
+    /// A contract has less than 5 lots, and no reference at the window's first millisecond.
+    NoReference = 13,
+    /// A contract's rounded close is outside 1 to 99,999,999.
+    CloseOutOfRange = 14,
+    /// An earlier contract was refused.
+    NotReached = 15,
+    /// The place is past the buffer, or the field does not fit behind it.
+    DoesNotFit = 16,
+}
+
+/// Every reason, number 1 first.
+const REASONS: [Reason; 16] = [
+    Reason::SheetTooLong,
+    Reason::BytesMissing,
+    Reason::Tag,
+    Reason::Length,
+    Reason::OutOfPlace,
+    Reason::MetalOrMarks,
+    Reason::Instrument,
+    Reason::Time,
+    Reason::Price,
+    Reason::Lots,
+    Reason::Sides,
+    Reason::EndCount,
+    Reason::NoReference,
+    Reason::CloseOutOfRange,
+    Reason::NotReached,
+    Reason::DoesNotFit,
+];
+
+impl Reason {
+    /// Document 01's number.
+    pub fn number(self) -> u8 {
+        self as u8
+    }
+
+    /// The reason of a number, none where it is not 1 to 16.
+    pub fn from_number(number: u8) -> Option<Reason> {
+        REASONS.get(usize::from(number).checked_sub(1)?).copied()
+    }
+
+    /// The reason of a number that the archive handed back as a refusal. It hands back no other, so this never panics.
+    pub(crate) fn handed_back(number: u64) -> Reason {
+        let reason = u8::try_from(number).ok().and_then(Reason::from_number);
+        reason.unwrap_or_else(|| unreachable!("{number} is no refusal of document 01"))
+    }
+
+    fn words(self) -> &'static str {
+        match self {
+            Reason::SheetTooLong => "the sheet is longer than 1,048,576 bytes",
+            Reason::BytesMissing => "bytes of a field or the end field are missing",
+            Reason::Tag => "the tag is not 1 to 5",
+            Reason::Length => "the length is not the tag's",
+            Reason::OutOfPlace => "the field is out of its place, or bytes stand after the end field",
+            Reason::MetalOrMarks => "the metal is not 1 to 5, or a mark is above bit 10",
+            Reason::Instrument => "the instrument is above 11",
+            Reason::Time => "the time is above its range or below the time before it",
+            Reason::Price => "a price is out of its range",
+            Reason::Lots => "the lots are not 1 to 10,000",
+            Reason::Sides => {
+                "the sides are above 3, an absent side is not zero, or the bid is above the offer"
+            }
+            Reason::EndCount => "the end field's count is wrong",
+            Reason::NoReference => "less than 5 lots, and no reference at the window's first millisecond",
+            Reason::CloseOutOfRange => "the rounded close is outside 1 to 99,999,999",
+            Reason::NotReached => "an earlier contract was refused",
+            Reason::DoesNotFit => "the place is past the buffer, or the field does not fit behind it",
+        }
+    }
+}
+
+impl fmt::Display for Reason {
+    fn fmt(&self, out: &mut fmt::Formatter<'_>) -> fmt::Result {
+        write!(out, "{} ({})", self.words(), self.number())
+    }
+}
+
+impl Error for Reason {}
+
+/// A sheet that is refused: why, and the byte at which the field starts that earned it.
+#[derive(Clone, Copy, Debug, PartialEq, Eq, Hash)]
+pub struct Refusal {
+    /// Why: [`Reason::SheetTooLong`] to [`Reason::EndCount`].
+    pub reason: Reason,
+    /// The byte, counted from 0: where the field starts; 0 for a sheet that is too long; the sheet's length where the end is missing.
+    pub byte: usize,
+}
+
+impl fmt::Display for Refusal {
+    fn fmt(&self, out: &mut fmt::Formatter<'_>) -> fmt::Result {
+        write!(out, "refused at byte {}: {}", self.byte, self.reason)
+    }
+}
+
+impl Error for Refusal {
+    fn source(&self) -> Option<&(dyn Error + 'static)> {
+        Some(&self.reason)
+    }
+}
