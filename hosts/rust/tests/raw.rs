@@ -1,0 +1,215 @@
+//! Each function of the archive at its edges: every number that it can give, with all that was lent compared behind the call.
+
+mod common;
+
+use bliskoru::raw;
+use common::{file, filled, longer, nickel_of, rows, Row, FILL, FILLED, GUARD};
+
+/// All that a call may write but buffers, between guards.
+#[repr(C)]
+#[derive(Debug, PartialEq)]
+struct Lent {
+    guard_1: u64,
+    answers: [u64; 18],
+    guard_2: u64,
+    values: [i64; 6],
+    guard_3: u64,
+    place: usize,
+    guard_4: u64,
+}
+
+fn lent() -> Lent {
+    let all = u64::from_ne_bytes([FILL; 8]);
+    Lent {
+        guard_1: all,
+        answers: [all; 18],
+        guard_2: all,
+        values: [all as i64; 6],
+        guard_3: all,
+        place: FILLED,
+        guard_4: all,
+    }
+}
+
+/// The list into a buffer of `room` bytes: all of it, or nothing where it is longer.
+fn look_at_room(sheet: &[u8], list: &[u8], room: usize, text: &str) {
+    let mut got = filled(room);
+    let mut wanted = filled(room);
+    let length = if list.len() <= room { list.len() } else { 0 };
+    wanted[GUARD..GUARD + length].copy_from_slice(&list[..length]);
+    let out = &mut got[GUARD..GUARD + room];
+    // SAFETY: two slices, and `out` is borrowed alone.
+    let told = unsafe { raw::bliskoru_list(sheet.as_ptr(), sheet.len(), out.as_mut_ptr(), out.len()) };
+    assert_eq!(told, length, "{text}");
+    assert!(got == wanted, "the list's buffer: {text}");
+}
+
+fn look_at_list(sheet: &[u8], list: &[u8], text: &str) {
+    for room in [512, list.len() + 1, list.len(), list.len() - 1, 0] {
+        look_at_room(sheet, list, room, text);
+    }
+}
+
+/// Judgement and answers of a sheet: a refusal at a byte, or 0 and these answers.
+fn look_at_sheet(sheet: &[u8], number: u8, byte: usize, answers: Option<[u64; 18]>, text: &str) {
+    let place = if number == 0 { FILLED } else { byte };
+    let mut got = lent();
+    // SAFETY: a slice, and a place of our own.
+    let told = unsafe { raw::bliskoru_judge(sheet.as_ptr(), sheet.len(), &mut got.place) };
+    assert_eq!((told, got), (number, Lent { place, ..lent() }), "{text}");
+
+    let mut got = lent();
+    // SAFETY: a slice, and 18 numbers and a place of our own.
+    let told =
+        unsafe { raw::bliskoru_answers(sheet.as_ptr(), sheet.len(), &mut got.answers, &mut got.place) };
+    let answers = answers.unwrap_or(lent().answers);
+    assert_eq!((told, got), (number, Lent { place, answers, ..lent() }), "{text}");
+}
+
+/// Reading at a place: a refusal, or 0 with these values and the place behind.
+fn look_at_read(sheet: &[u8], at: usize, wanted: Result<([i64; 6], usize), u8>, text: &str) {
+    let mut got = lent();
+    // SAFETY: a slice, and 6 numbers and a place of our own.
+    let told =
+        unsafe { raw::bliskoru_read(sheet.as_ptr(), sheet.len(), at, &mut got.values, &mut got.place) };
+    let (number, behind) = match wanted {
+        Ok((values, place)) => (0, Lent { values, place, ..lent() }),
+        Err(number) => (number, lent()),
+    };
+    assert_eq!((told, got), (number, behind), "{text}");
+}
+
+/// The field of a row by the function of its tag.
+fn written(row: &Row, buffer: &mut [u8], at: usize, next: &mut usize) -> u8 {
+    let (start, length) = (buffer.as_mut_ptr(), buffer.len());
+    let v = &row.numbers[2..];
+    // SAFETY: a slice that is borrowed alone, and a place that is.
+    unsafe {
+        match row.numbers[1] {
+            1 => raw::bliskoru_write_header(start, length, at, v[0] as u8, v[1] as u16, next),
+            2 => raw::bliskoru_write_previous_close(start, length, at, v[0] as u8, v[1] as i32, next),
+            3 => {
+                let (time, instrument, cents, lots) = (v[0] as u32, v[1] as u8, v[2] as i32, v[3] as u16);
+                raw::bliskoru_write_trade(start, length, at, time, instrument, cents, lots, next)
+            }
+            4 => {
+                let (time, instrument, sides) = (v[0] as u32, v[1] as u8, v[2] as u8);
+                let (bid, offer) = (v[3] as i32, v[4] as i32);
+                raw::bliskoru_write_quote(start, length, at, time, instrument, sides, bid, offer, next)
+            }
+            _ => raw::bliskoru_write_end(start, length, at, v[0] as u32, next),
+        }
+    }
+}
+
+/// Writing at a place of a buffer of so many bytes: the values' number, else 16 where it does not fit, else the field's bytes and no other.
+fn look_at_write(row: &Row, length: usize, at: usize) {
+    let mut buffer = filled(length);
+    let mut behind = filled(length);
+    let mut place = lent().place;
+    let fits = at <= length && row.bytes.len() <= length - at;
+    let number = if row.number() == 0 && !fits { 16 } else { row.number() };
+    if number == 0 {
+        behind[GUARD + at..GUARD + at + row.bytes.len()].copy_from_slice(&row.bytes);
+        place = at + row.bytes.len();
+    }
+    let mut got = lent();
+    let told = written(row, &mut buffer[GUARD..GUARD + length], at, &mut got.place);
+    assert_eq!((told, got), (number, Lent { place, ..lent() }), "{length} {at} {}", row.text);
+    assert!(buffer == behind, "the buffer of {length} {at} {}", row.text);
+}
+
+#[test]
+fn fields_are_written_at_every_edge_of_room_and_place() {
+    for row in rows("fields", 80) {
+        let size = row.bytes.len();
+        for (length, at) in [(size, 0), (size - 1, 0), (0, 0), (size + 9, 5), (size + 5, 5), (size + 4, 5)] {
+            look_at_write(&row, length, at);
+        }
+        for at in [100 - size, 101 - size, 100, 101, usize::MAX, usize::MAX - size, usize::MAX - size + 1] {
+            look_at_write(&row, 100, at);
+        }
+        look_at_write(&row, 0, usize::MAX);
+    }
+}
+
+#[test]
+fn fields_are_read_as_their_values_or_refused_by_them() {
+    for row in rows("fields", 80) {
+        let size = row.bytes.len();
+        let values: [i64; 6] = std::array::from_fn(|k| row.numbers[1 + k] as i64);
+        let wanted = |next: usize| if row.number() == 0 { Ok((values, next)) } else { Err(row.number()) };
+        look_at_read(&row.bytes, 0, wanted(size), &row.text);
+        look_at_read(&row.bytes[..size - 1], 0, Err(2), &row.text);
+        let within = [&[255; 3], &row.bytes[..], &[255; 5]].concat();
+        look_at_read(&within, 3, wanted(size + 3), &row.text);
+    }
+}
+
+#[test]
+fn what_is_no_field_is_refused_at_every_place() {
+    for row in rows("heads", 35) {
+        look_at_read(&row.bytes, row.numbers[1] as usize, Err(row.number()), &row.text);
+    }
+}
+
+#[test]
+fn a_field_is_read_far_behind_the_longest_sheet() {
+    let mut sheet = vec![0; 2_000_000];
+    sheet.extend([1, 0, 3, 4, 7, 255]);
+    look_at_read(&sheet, 2_000_000, Ok(([1, 4, 2047, 0, 0, 0], 2_000_006)), "byte 2,000,000");
+    look_at_read(&sheet, 2_000_001, Err(3), "byte 2,000,001");
+}
+
+#[test]
+fn refused_sheets_have_their_number_and_byte() {
+    for row in rows("sheets", 50) {
+        let byte = row.numbers[1] as usize;
+        look_at_sheet(&row.bytes, row.number(), byte, None, &row.text);
+        look_at_list(&row.bytes, format!("refused {} {byte}\n", row.number()).as_bytes(), &row.text);
+    }
+}
+
+#[test]
+fn accepted_sheets_have_their_answers() {
+    for row in rows("answers", 20) {
+        let answers = std::array::from_fn(|k| row.numbers[k] as u64);
+        look_at_sheet(&row.bytes, 0, 0, Some(answers), &row.text);
+    }
+}
+
+#[test]
+fn samples_have_their_lists() {
+    for name in ["nickel", "copper", "torn", "no_reference"] {
+        let list = file(&format!("examples/{name}.list"));
+        look_at_list(&file(&format!("examples/{name}.sheet")), &list, name);
+    }
+}
+
+/// 6 + 14 * 74,884 + 17 * 11 + 7 = 1,048,576.
+#[test]
+fn the_longest_sheet_is_priced_and_a_longer_one_refused() {
+    let sheet = nickel_of(74_884, 11);
+    assert_eq!(sheet.len(), 1_048_576);
+    let answers = [1, 1_800_000, 748_840_000, 13, 0, 0, 15, 0, 0, 15, 0, 0, 15, 0, 0, 15, 0, 0];
+    look_at_sheet(&sheet, 0, 0, Some(answers), "longest");
+    look_at_list(&sheet, b"too long\n", "longest");
+    look_at_sheet(&longer(&sheet), 1, 0, None, "one byte longer");
+    look_at_list(&longer(&sheet), b"too long\n", "one byte longer");
+    look_at_sheet(&vec![0; 1_048_576], 3, 0, None, "1,048,576 zero bytes");
+    look_at_sheet(&vec![0; 1_048_577], 1, 0, None, "1,048,577 zero bytes");
+}
+
+/// 6 + 14 * 4,679 + 17 + 7 = 65,536.
+#[test]
+fn the_longest_listed_sheet_is_listed_and_a_longer_one_is_not() {
+    let sheet = nickel_of(4_679, 1);
+    assert_eq!(sheet.len(), 65_536);
+    let priced = "Nickel\n3M VWAP 1800000 46790000\nM3 refused 13 0\n";
+    let list = format!("{priced}M2 refused 15 0\nM4 refused 15 0\nM1 refused 15 0\nCash refused 15 0\n");
+    look_at_list(&sheet, list.as_bytes(), "65,536 bytes");
+    look_at_list(&longer(&sheet), b"too long\n", "65,537 bytes");
+    look_at_sheet(&longer(&sheet), 5, 65_536, None, "65,537 bytes");
+    look_at_list(&vec![0; 65_536], b"refused 3 0\n", "65,536 zero bytes");
+    look_at_list(&vec![0; 65_537], b"too long\n", "65,537 zero bytes");
+}

@@ -1,0 +1,176 @@
+//! The safe functions: what each hands back for the edges' tables, for document 01's Nickel sheet, and for no bytes at all.
+
+mod common;
+
+use bliskoru::{answers, judge, list, list_into, read_field, write_field};
+use bliskoru::{Answer, Field, Method, Reason, Refusal, BID, CONTRACTS, OFFER};
+use common::{file, filled, longer, nickel_of, rows, Row};
+use std::error::Error;
+
+fn reason(number: u8) -> Reason {
+    Reason::from_number(number).expect("a number of document 01")
+}
+
+/// The field of a row of `fields`.
+fn field_of(row: &Row) -> Field {
+    let v = &row.numbers[2..];
+    match row.numbers[1] {
+        1 => Field::Header { metal: v[0] as u8, marks: v[1] as u16 },
+        2 => Field::PreviousClose { instrument: v[0] as u8, cents: v[1] as i32 },
+        3 => {
+            Field::Trade { time: v[0] as u32, instrument: v[1] as u8, cents: v[2] as i32, lots: v[3] as u16 }
+        }
+        4 => Field::Quote {
+            time: v[0] as u32,
+            instrument: v[1] as u8,
+            sides: v[2] as u8,
+            bid: v[3] as i32,
+            offer: v[4] as i32,
+        },
+        _ => Field::End { count: v[0] as u32 },
+    }
+}
+
+/// The answer of three numbers of a row of `answers`.
+fn answer_of(row: &[i128]) -> Answer {
+    let (cents, lots) = (row[1] as u32, row[2] as u64);
+    match row[0] {
+        1 => Answer::Priced { method: Method::Vwap, cents, lots },
+        2 => Answer::Priced { method: Method::Twap, cents, lots },
+        number => Answer::Refused { reason: reason(number as u8), lots },
+    }
+}
+
+#[test]
+fn fields_are_read_and_written() {
+    for row in rows("fields", 80) {
+        let (field, size) = (field_of(&row), row.bytes.len());
+        let wanted = if row.number() == 0 { Ok(()) } else { Err(reason(row.number())) };
+        assert_eq!(read_field(&row.bytes, 0), wanted.map(|()| (field, size)), "{}", row.text);
+        let mut buffer = filled(size);
+        assert_eq!(write_field(&mut buffer, 2, &field), wanted.map(|()| size + 2), "{}", row.text);
+        let mut behind = filled(size);
+        if wanted.is_ok() {
+            behind[2..size + 2].copy_from_slice(&row.bytes);
+        }
+        assert!(buffer == behind, "{}", row.text);
+        let full = if row.number() == 0 { Reason::DoesNotFit } else { reason(row.number()) };
+        assert_eq!(write_field(&mut buffer[..size - 1], 0, &field), Err(full), "{}", row.text);
+        assert_eq!(write_field(&mut [], usize::MAX, &field), Err(full), "{}", row.text);
+    }
+}
+
+#[test]
+fn what_is_no_field_is_refused() {
+    for row in rows("heads", 35) {
+        let wanted = Err(reason(row.number()));
+        assert_eq!(read_field(&row.bytes, row.numbers[1] as usize), wanted, "{}", row.text);
+    }
+}
+
+#[test]
+fn refused_sheets_have_their_reason_and_byte() {
+    for row in rows("sheets", 50) {
+        let refusal = Refusal { reason: reason(row.number()), byte: row.numbers[1] as usize };
+        assert_eq!(judge(&row.bytes), Err(refusal), "{}", row.text);
+        assert_eq!(answers(&row.bytes), Err(refusal), "{}", row.text);
+        assert_eq!(list(&row.bytes), format!("refused {} {}\n", row.number(), refusal.byte), "{}", row.text);
+    }
+}
+
+#[test]
+fn accepted_sheets_have_their_answers() {
+    for row in rows("answers", 20) {
+        let wanted = std::array::from_fn(|k| answer_of(&row.numbers[3 * k..]));
+        assert_eq!(judge(&row.bytes), Ok(()), "{}", row.text);
+        assert_eq!(answers(&row.bytes), Ok(wanted), "{}", row.text);
+    }
+}
+
+#[test]
+fn too_long_is_a_reason_too() {
+    let sheet = nickel_of(74_884, 11);
+    assert_eq!(judge(&sheet), Ok(()));
+    let refusal = Refusal { reason: Reason::SheetTooLong, byte: 0 };
+    assert_eq!(judge(&longer(&sheet)), Err(refusal));
+    assert_eq!(answers(&longer(&sheet)), Err(refusal));
+    assert_eq!(list(&sheet), "too long\n");
+}
+
+#[test]
+fn the_nickel_sheet_is_written_judged_priced_and_listed() -> Result<(), Box<dyn Error>> {
+    let trade = |time, instrument, cents, lots| Field::Trade { time, instrument, cents, lots };
+    let fields = [
+        Field::Header { metal: 1, marks: 0 },
+        Field::PreviousClose { instrument: 7, cents: -120 },
+        Field::PreviousClose { instrument: 11, cents: -250 },
+        trade(58_200_000, 1, -500, 4),
+        trade(58_260_000, 1, -497, 2),
+        trade(58_320_000, 3, -300, 5),
+        trade(58_350_000, 5, -410, 5),
+        Field::quote(58_380_000, 7, Some(-110), None),
+        trade(58_500_000, 0, 1_800_040, 3),
+        trade(58_560_000, 0, 1_800_100, 3),
+        Field::End { count: 10 },
+    ];
+    let mut sheet = [0; 130];
+    let mut at = 0;
+    for field in &fields {
+        let start = at;
+        at = write_field(&mut sheet, at, field)?;
+        assert_eq!(read_field(&sheet, start)?, (*field, at));
+    }
+    assert_eq!(at, 130);
+    assert_eq!(sheet.to_vec(), file("examples/nickel.sheet"));
+    judge(&sheet)?;
+    assert_eq!(list(&sheet).as_bytes(), file("examples/nickel.list"));
+    let lines =
+        CONTRACTS.iter().zip(answers(&sheet)?).map(|(contract, answer)| format!("{contract} {answer}\n"));
+    assert_eq!(format!("Nickel\n{}", lines.collect::<String>()), list(&sheet));
+    Ok(())
+}
+
+#[test]
+fn no_bytes_at_all_are_lent_without_a_null_pointer() {
+    let missing = Refusal { reason: Reason::BytesMissing, byte: 0 };
+    assert_eq!(judge(&[]), Err(missing));
+    assert_eq!(answers(&[]), Err(missing));
+    assert_eq!(list(&[]), "refused 2 0\n");
+    assert_eq!(list_into(&[], &mut []), None);
+    assert_eq!(read_field(&[], 0), Err(Reason::BytesMissing));
+    assert_eq!(write_field(&mut [], 0, &Field::End { count: 0 }), Err(Reason::DoesNotFit));
+}
+
+#[test]
+fn a_list_goes_into_lent_room_whole_or_not_at_all() {
+    let mut room = [7; 14];
+    assert_eq!(list_into(&[], &mut room), Some(12));
+    assert_eq!(&room, b"refused 2 0\n\x07\x07");
+    let mut room = [7; 11];
+    assert_eq!(list_into(&[], &mut room), None);
+    assert_eq!(room, [7; 11]);
+}
+
+#[test]
+fn reasons_are_document_01s_numbers_and_have_words() {
+    for number in 1..=16 {
+        assert_eq!(reason(number).number(), number);
+        assert!(reason(number).to_string().ends_with(&format!(" ({number})")));
+    }
+    assert_eq!((Reason::from_number(0), Reason::from_number(17)), (None, None));
+    let refusal = judge(&[9, 0, 0]).expect_err("no tag");
+    assert_eq!(refusal.to_string(), "refused at byte 0: the tag is not 1 to 5 (3)");
+    assert_eq!(refusal.source().map(ToString::to_string), Some(Reason::Tag.to_string()));
+}
+
+#[test]
+fn a_quote_has_the_sides_that_it_is_given() {
+    let sides = |bid, offer| match Field::quote(1, 2, bid, offer) {
+        Field::Quote { sides, bid, offer, .. } => (sides, bid, offer),
+        _ => (255, 0, 0),
+    };
+    assert_eq!(sides(None, None), (0, 0, 0));
+    assert_eq!(sides(Some(-3), None), (BID, -3, 0));
+    assert_eq!(sides(None, Some(4)), (OFFER, 0, 4));
+    assert_eq!(sides(Some(0), Some(0)), (BID | OFFER, 0, 0));
+}
