@@ -1,0 +1,143 @@
+//! One sheet, asked of both.
+
+use bliskoru::{Answer, Field, Method, LIST_ROOM, LONGEST_LISTED};
+use independent::list::{closing_list, closing_list_by_spans};
+use independent::pricing::{price_day, price_day_by_spans};
+use independent::{judge_sheet, Day, Refusal};
+use std::fmt::Debug;
+
+/// What both say: the metal and the six answers, or the refusal.
+pub type Told = Result<(u8, [Answer; 6]), Refusal>;
+
+/// What the room for a list is filled with.
+const FILL: u8 = 0xA5;
+
+/// The bytes of a quote.
+const LONGEST_FIELD: usize = 17;
+
+/// Fields are compared in sheets up to this length.
+const LONGEST_READ: usize = 4_096;
+
+pub fn hexadecimal(sheet: &[u8]) -> String {
+    sheet.iter().map(|byte| format!("{byte:02x}")).collect()
+}
+
+fn same<T: PartialEq + Debug>(what: &str, library: &T, independent: &T) -> Result<(), String> {
+    if library == independent {
+        return Ok(());
+    }
+    Err(format!("{what}: the library says {library:?}, the independent program {independent:?}"))
+}
+
+/// What both say of a sheet, or where they differ. A walked sheet and a refused one are asked for list and answers; of the others, which
+/// take the library a walk over the milliseconds each time, the first two in four are asked for the list and the next two for the answers.
+pub fn look(sheet: &[u8], item: u64, walked: bool) -> Result<Told, String> {
+    let judged = judge_sheet(sheet);
+    let told = told(&judged, if walked { price_day } else { price_day_by_spans });
+    let refusal = |no: bliskoru::Refusal| (no.reason.number(), no.byte);
+    same("judgement", &bliskoru::judge(sheet).map_err(refusal), &told.map(|_| ()))?;
+    let quick = told.is_err() || sheet.len() > LONGEST_LISTED;
+    if quick || walked || item % 4 < 2 {
+        look_at_list(sheet, walked)?;
+    }
+    if quick || walked || item % 4 >= 2 {
+        same("answers", &bliskoru::answers(sheet).map_err(refusal), &told.map(|(_, answers)| answers))?;
+    }
+    if sheet.len() <= LONGEST_READ {
+        look_at_fields(sheet, item)?;
+    }
+    Ok(told)
+}
+
+fn told(judged: &Result<Day, Refusal>, price: fn(&Day) -> [independent::Answer; 6]) -> Told {
+    match judged {
+        Ok(day) => Ok((day.metal, price(day).map(|answer| in_the_librarys_words(&answer)))),
+        Err(refusal) => Err(*refusal),
+    }
+}
+
+/// The independent program's answer in the library's words. A close that 32 bits cannot hold becomes one that no close equals.
+fn in_the_librarys_words(answer: &independent::Answer) -> Answer {
+    match *answer {
+        independent::Answer::Priced { method, price, lots } => {
+            let method = match method {
+                independent::Method::Vwap => Method::Vwap,
+                independent::Method::Twap => Method::Twap,
+            };
+            Answer::Priced { method, cents: u32::try_from(price).unwrap_or(u32::MAX), lots }
+        }
+        independent::Answer::Refused { number, lots } => {
+            let reason = bliskoru::Reason::from_number(number).unwrap_or(bliskoru::Reason::DoesNotFit);
+            Answer::Refused { reason, lots }
+        }
+    }
+}
+
+/// The list, byte for byte, with what stands behind it in its room.
+fn look_at_list(sheet: &[u8], walked: bool) -> Result<(), String> {
+    let list = if walked { closing_list(sheet) } else { closing_list_by_spans(sheet) };
+    let mut room = [FILL; LIST_ROOM];
+    let mut wanted = [FILL; LIST_ROOM];
+    wanted[..list.len()].copy_from_slice(&list);
+    same("the list's length", &bliskoru::list_into(sheet, &mut room), &Some(list.len()))?;
+    if room == wanted {
+        return Ok(());
+    }
+    same("the list in its room", &shown(&room), &shown(&wanted))
+}
+
+/// What stands in a room before its last bytes as they were filled.
+fn shown(room: &[u8]) -> String {
+    let length = room.iter().rposition(|byte| *byte != FILL).map_or(0, |last| last + 1);
+    room[..length].escape_ascii().to_string()
+}
+
+/// The fields one after the other up to a refusal, one at a place that depends on the sheet's number, and one past the end.
+fn look_at_fields(sheet: &[u8], item: u64) -> Result<(), String> {
+    look_at_field(sheet, item as usize % (sheet.len() + 4))?;
+    look_at_field(sheet, usize::MAX - item as usize % 20)?;
+    let mut at = 0;
+    while let Some(next) = look_at_field(sheet, at)? {
+        at = next;
+    }
+    Ok(())
+}
+
+/// The field at a place, read by both; where there is one, it is written back as its bytes, and the place behind it is handed back.
+fn look_at_field(sheet: &[u8], at: usize) -> Result<Option<usize>, String> {
+    let read = bliskoru::read_field(sheet, at);
+    let theirs = independent::read_field(sheet, at);
+    let wanted = theirs.map(|(field, next)| (values(&field), next)).map_err(|(number, _)| number);
+    same(&format!("the field at {at}"), &read.map_err(bliskoru::Reason::number), &wanted)?;
+    let Ok((field, next)) = read else {
+        return Ok(None);
+    };
+    let mut written = [FILL; 2 + LONGEST_FIELD + 2];
+    let mut wanted = written;
+    wanted[2..2 + next - at].copy_from_slice(&sheet[at..next]);
+    let behind = bliskoru::write_field(&mut written, 2, &field);
+    same("the place behind what is written", &behind, &Ok(2 + next - at))?;
+    same("what is written", &written, &wanted)?;
+    Ok(Some(next))
+}
+
+/// The independent program's field as the library's.
+fn values(field: &independent::Field) -> Field {
+    match *field {
+        independent::Field::Header(f) => Field::Header { metal: f.metal, marks: f.marks },
+        independent::Field::PreviousClose(f) => {
+            Field::PreviousClose { instrument: f.instrument, cents: f.price }
+        }
+        independent::Field::Trade(f) => {
+            Field::Trade { time: f.time, instrument: f.instrument, cents: f.price, lots: f.lots }
+        }
+        independent::Field::Quote(f) => Field::Quote {
+            time: f.time,
+            instrument: f.instrument,
+            sides: f.sides,
+            bid: f.bid,
+            offer: f.offer,
+        },
+        independent::Field::End(f) => Field::End { count: f.count },
+    }
+}
