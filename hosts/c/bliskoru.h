@@ -11,7 +11,8 @@
  *    and has its type's alignment.
  *  - What is not said to be written stays as it was, byte for byte. A sheet is never written.
  *
- * These declarations are not checked against the proved source by any prover; hosts/c/edges.c calls each of them at its edges.
+ * No prover checks these declarations against the proved source. hosts/rust/tests/declarations.rs compares their texts with the source's, and
+ * hosts/c/edges.c calls each function at its edges.
  */
 #ifndef BLISKORU_H
 #define BLISKORU_H
