@@ -1,6 +1,6 @@
 //! One sheet, asked of both.
 
-use bliskoru::{Answer, Field, Method, LIST_ROOM, LONGEST_LISTED};
+use bliskoru::{Answer, Field, Method, LIST_ROOM};
 use independent::list::{closing_list, closing_list_by_spans};
 use independent::pricing::{price_day, price_day_by_spans};
 use independent::{judge_sheet, Day, Refusal};
@@ -29,20 +29,14 @@ fn same<T: PartialEq + Debug>(what: &str, library: &T, independent: &T) -> Resul
     Err(format!("{what}: the library says {library:?}, the independent program {independent:?}"))
 }
 
-/// What both say of a sheet, or where they differ. A walked sheet and a refused one are asked for list and answers; of the others, which
-/// take the library a walk over the milliseconds each time, the first two in four are asked for the list and the next two for the answers.
+/// What both say of a sheet, or where they differ.
 pub fn look(sheet: &[u8], item: u64, walked: bool) -> Result<Told, String> {
     let judged = judge_sheet(sheet);
     let told = told(&judged, if walked { price_day } else { price_day_by_spans });
     let refusal = |no: bliskoru::Refusal| (no.reason.number(), no.byte);
     same("judgement", &bliskoru::judge(sheet).map_err(refusal), &told.map(|_| ()))?;
-    let quick = told.is_err() || sheet.len() > LONGEST_LISTED;
-    if quick || walked || item % 4 < 2 {
-        look_at_list(sheet, walked)?;
-    }
-    if quick || walked || item % 4 >= 2 {
-        same("answers", &bliskoru::answers(sheet).map_err(refusal), &told.map(|(_, answers)| answers))?;
-    }
+    same("answers", &bliskoru::answers(sheet).map_err(refusal), &told.map(|(_, answers)| answers))?;
+    look_at_list(sheet, walked)?;
     if sheet.len() <= LONGEST_READ {
         look_at_fields(sheet, item)?;
     }

@@ -6,6 +6,7 @@ use bliskoru::{answers, judge, list, list_into, read_field, write_field};
 use bliskoru::{Answer, Field, Method, Reason, Refusal, BID, CONTRACTS, OFFER};
 use common::{file, filled, longer, nickel_of, rows, Row};
 use std::error::Error;
+use std::thread;
 
 fn reason(number: u8) -> Reason {
     Reason::from_number(number).expect("a number of document 01")
@@ -149,6 +150,16 @@ fn a_list_goes_into_lent_room_whole_or_not_at_all() {
     let mut room = [7; 11];
     assert_eq!(list_into(&[], &mut room), None);
     assert_eq!(room, [7; 11]);
+}
+
+#[test]
+fn threads_may_ask_at_once_of_one_sheet() {
+    let (sheet, wanted) = (file("examples/nickel.sheet"), file("examples/nickel.list"));
+    thread::scope(|scope| {
+        for _ in 0..8 {
+            scope.spawn(|| (0..10).for_each(|_| assert_eq!(list(&sheet).as_bytes(), wanted)));
+        }
+    });
 }
 
 #[test]
