@@ -31,6 +31,14 @@ fn lent() -> Lent {
     }
 }
 
+/// Lends a copy of the sheet, and looks behind the call that no byte of it has changed.
+fn with_copy<T>(sheet: &[u8], text: &str, call: impl FnOnce(*const u8, usize) -> T) -> T {
+    let mut copy = sheet.to_vec();
+    let told = call(copy.as_mut_ptr(), copy.len());
+    assert!(copy == sheet, "the sheet of {text}");
+    told
+}
+
 /// The list into a buffer of `room` bytes: all of it, or nothing where it is longer.
 fn look_at_room(sheet: &[u8], list: &[u8], room: usize, text: &str) {
     let mut got = filled(room);
@@ -38,8 +46,10 @@ fn look_at_room(sheet: &[u8], list: &[u8], room: usize, text: &str) {
     let length = if list.len() <= room { list.len() } else { 0 };
     wanted[GUARD..GUARD + length].copy_from_slice(&list[..length]);
     let out = &mut got[GUARD..GUARD + room];
-    // SAFETY: two slices, and `out` is borrowed alone.
-    let told = unsafe { raw::bliskoru_list(sheet.as_ptr(), sheet.len(), out.as_mut_ptr(), out.len()) };
+    let told = with_copy(sheet, text, |start, length| {
+        // SAFETY: two slices, and `out` is borrowed alone.
+        unsafe { raw::bliskoru_list(start, length, out.as_mut_ptr(), out.len()) }
+    });
     assert_eq!(told, length, "{text}");
     assert!(got == wanted, "the list's buffer: {text}");
 }
@@ -54,14 +64,17 @@ fn look_at_list(sheet: &[u8], list: &[u8], text: &str) {
 fn look_at_sheet(sheet: &[u8], number: u8, byte: usize, answers: Option<[u64; 18]>, text: &str) {
     let place = if number == 0 { FILLED } else { byte };
     let mut got = lent();
-    // SAFETY: a slice, and a place of our own.
-    let told = unsafe { raw::bliskoru_judge(sheet.as_ptr(), sheet.len(), &mut got.place) };
+    let told = with_copy(sheet, text, |start, length| {
+        // SAFETY: a slice, and a place of our own.
+        unsafe { raw::bliskoru_judge(start, length, &mut got.place) }
+    });
     assert_eq!((told, got), (number, Lent { place, ..lent() }), "{text}");
 
     let mut got = lent();
-    // SAFETY: a slice, and 18 numbers and a place of our own.
-    let told =
-        unsafe { raw::bliskoru_answers(sheet.as_ptr(), sheet.len(), &mut got.answers, &mut got.place) };
+    let told = with_copy(sheet, text, |start, length| {
+        // SAFETY: a slice, and 18 numbers and a place of our own.
+        unsafe { raw::bliskoru_answers(start, length, &mut got.answers, &mut got.place) }
+    });
     let answers = answers.unwrap_or(lent().answers);
     assert_eq!((told, got), (number, Lent { place, answers, ..lent() }), "{text}");
 }
@@ -69,9 +82,10 @@ fn look_at_sheet(sheet: &[u8], number: u8, byte: usize, answers: Option<[u64; 18
 /// Reading at a place: a refusal, or 0 with these values and the place behind.
 fn look_at_read(sheet: &[u8], at: usize, wanted: Result<([i64; 6], usize), u8>, text: &str) {
     let mut got = lent();
-    // SAFETY: a slice, and 6 numbers and a place of our own.
-    let told =
-        unsafe { raw::bliskoru_read(sheet.as_ptr(), sheet.len(), at, &mut got.values, &mut got.place) };
+    let told = with_copy(sheet, text, |start, length| {
+        // SAFETY: a slice, and 6 numbers and a place of our own.
+        unsafe { raw::bliskoru_read(start, length, at, &mut got.values, &mut got.place) }
+    });
     let (number, behind) = match wanted {
         Ok((values, place)) => (0, Lent { values, place, ..lent() }),
         Err(number) => (number, lent()),
