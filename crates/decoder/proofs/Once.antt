@@ -1,7 +1,12 @@
--- Any two results that the contract of `field_of` permits are equal. Assumes nothing.
+-- Any two results that a function's contract permits are equal. Assumes nothing.
 use Rattle.promise.specs.Once.{Once, once}
+use Rattle.decoder.proofs.trade_of.Reads as trade-of
+use Rattle.decoder.proofs.trade_of.Kinds as trade-ofK
 use Rattle.decoder.proofs.field_of.Reads as field-of
 use Rattle.decoder.proofs.field_of.Kinds as field-ofK
 
 pub field-of-once : Once 1 field-ofK.ps field-ofK.r field-of.Post (λ κs x s. x)
 field-of-once κs a x y s t p q = once p q
+
+pub trade-of-once : Once 1 trade-ofK.ps trade-ofK.r trade-of.Post (λ κs x s. x)
+trade-of-once κs a x y s t p q = once p q

@@ -40,7 +40,8 @@ fn previous_of(body: &[u8]) -> Field
     }
 }
 
-fn trade_of(body: &[u8]) -> Field
+// The values of a trade's body: a pass that knows the tag asks for no other.
+pub fn trade_of(body: &[u8]) -> Field
     requires { ⌜ length (now body) ≡ 11 ⌝ }
     ensures { λ r. ⌜ r ≡ tradeOf (now (body .entry)) ⌝ }
 {

@@ -17,7 +17,7 @@ use Rattle.field.specs.declared.Price.{Price}
 use Rattle.field.specs.declared.Field.{Field}
 use Rattle.field.specs.declared.Field.the-variants.{Header, PreviousClose, Trade, Quote, End}
 use Rattle.field.specs.declared.Read.the-variants as R
-use Rattle.field.specs.Layout.{sizeOf, fieldOf}
+use Rattle.field.specs.Layout.{sizeOf, tradeOf, fieldOf}
 use Rattle.field.specs.Said.{gives}
 use Rattle.field.specs.Reading.{bodyAt, shapeAt}
 use Rattle.field.specs.Laws.{clash, Headed, Shaped, shaped}
@@ -218,7 +218,7 @@ module _ (metal : ℕ) (s : List ℕ) (at : ℕ) (ts : List Total) (o : Passing 
     shape = shaped s at (place .field) (place .next) (place .shape)
 
     module _ {tag : ℕ} (k : tag ≡ getD s at 0) where
-      pub pass-headed : Headed s at tag
+      pass-headed : Headed s at tag
       pass-headed = rw k (shape .head)
 
       -- the place behind the field
@@ -231,12 +231,16 @@ module _ (metal : ℕ) (s : List ℕ) (at : ℕ) (ts : List Total) (o : Passing 
       pub pass-fits : {n : ℕ} → n ≡ sizeOf tag → length s ≤ 1048576 → Fits w64 (at + n)
       pass-fits e h = record { fits = omega (arith, pass-inside e) }
 
-      -- it is the one that the code reads there
-      field-is : {f : Field} → f ≡ fieldOf tag (bodyAt s at tag) → place .field ≡ f
-      field-is e = sym (shape .values) ∙ ap (λ (x : ℕ). fieldOf x (bodyAt s at x)) (sym k) ∙ sym e
+      pub pass-three : tag ≡ 3 → Headed s at 3
+      pass-three h = subst (Headed s at) h pass-headed
 
-      pub pass-sound : {f : Field} → f ≡ fieldOf tag (bodyAt s at tag) → Filled s → Sound 0 f
-      pass-sound {f} e g = subst (Sound 0) (field-is e) (sofar-here (totalsOf metal) s at ts (o .sofar) {r = R.Field (place .field) (place .next)} (sym (place .shape)) (Sound 0) (g .sound) refl)
+      -- a trade is the one that the code reads there
+      trade-is : {f : Field} → tag ≡ 3 → f ≡ tradeOf (bodyAt s at 3) → place .field ≡ f
+      unfolding fieldOf
+      trade-is h e = sym (shape .values) ∙ ap (λ (x : ℕ). fieldOf x (bodyAt s at x)) (sym k ∙ h) ∙ sym e
+
+      pub pass-sound : {f : Field} → tag ≡ 3 → f ≡ tradeOf (bodyAt s at 3) → Filled s → Sound 0 f
+      pass-sound {f} h e g = subst (Sound 0) (trade-is h e) (sofar-here (totalsOf metal) s at ts (o .sofar) {r = R.Field (place .field) (place .next)} (sym (place .shape)) (Sound 0) (g .sound) refl)
 
       -- behind it, with what it counts
       on-with : (c : Counted) → c ≡ countedOf metal (place .field) → {n : ℕ} → n ≡ sizeOf tag → Passing metal s (at + n) (addCounted ts c)
@@ -245,9 +249,9 @@ module _ (metal : ℕ) (s : List ℕ) (at : ℕ) (ts : List Total) (o : Passing 
         stood = place .rest;
       })
 
-      module _ {f : Field} {c : Counted} (d : f ≡ fieldOf tag (bodyAt s at tag)) (g : c ≡ countedOf metal f) where
+      module _ {f : Field} {c : Counted} (three : tag ≡ 3) (d : f ≡ tradeOf (bodyAt s at 3)) (g : c ≡ countedOf metal f) where
         found : c ≡ countedOf metal (place .field)
-        found = g ∙ ap (countedOf metal) (sym (field-is d))
+        found = g ∙ ap (countedOf metal) (sym (trade-is three d))
 
         pub pass-trade : {instrument : ℕ} {price : Price} {lots : ℕ} {t : Total} {n : ℕ} → c ≡ C.Trade instrument price lots → t ≡ withTrade (getD ts instrument none) price lots → n ≡ sizeOf tag → Passing metal s (at + n) (set ts instrument t)
         unfolding addCounted

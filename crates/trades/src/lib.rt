@@ -2,14 +2,14 @@
 ghost use mathlib.Core.Path.{_≡_};
 ghost use Prim.Native.Nat.{_≤_};
 ghost use lib.ListN.{length};
-ghost use Rattle.field.specs.Layout.{fieldOf};
+ghost use Rattle.field.specs.Layout.{tradeOf};
 ghost use Rattle.field.specs.Reading.{bodyAt};
 ghost use Rattle.field.specs.Laws.{Headed};
 ghost use Rattle.sheet.specs.Fields.{fieldsOf};
 ghost use Rattle.trades.specs.Trades.{noTrades, totalsOf, Told};
 ghost use Rattle.trades.specs.Laws.{Small, AllSmall};
 ghost use Rattle.trades.specs.Pass.{withTrade, countedOf, Filled};
-use decoder::field_of;
+use decoder::trade_of;
 use field::Field;
 use field::Price;
 use field::layout::size_of;
@@ -101,14 +101,14 @@ fn count_field(metal: u8, field: Field) -> Counted
     }
 }
 
-// The field whose head and body are known to stand at a place.
-fn field_here(sheet: &[u8], at: usize, tag: u8) -> Field
-    requires { ⌜ Headed (now sheet) at tag ⌝ }
-    ensures { λ r. ⌜ r ≡ fieldOf tag (bodyAt (now (sheet .entry)) at tag) ⌝ }
+// The trade whose head and body are known to stand at a place.
+fn trade_here(sheet: &[u8], at: usize) -> Field
+    requires { ⌜ Headed (now sheet) at 3 ⌝ }
+    ensures { λ r. ⌜ r ≡ tradeOf (bodyAt (now (sheet .entry)) at 3) ⌝ }
 {
     let start = at + 3;
-    let next = at + size_of(tag);
-    field_of(tag, &sheet[start..next])
+    let next = at + 14;
+    trade_of(&sheet[start..next])
 }
 
 // The totals of a sheet that fields fill to its end, their values in their ranges: only trades are looked into.
@@ -122,7 +122,7 @@ fn totals_of(sheet: &[u8], metal: u8) -> [Total; 12]
         let tag = sheet[at];
         let next = at + size_of(tag);
         if tag == TRADE {
-            match count_field(metal, field_here(sheet, at, tag)) {
+            match count_field(metal, trade_here(sheet, at)) {
                 Counted::Trade {
                     instrument,
                     price,

@@ -1,11 +1,11 @@
 -- `trades::totals_of` meets its contract: at each place the totals are those of the fields before it. Assumes nothing.
 use borrow.Author.Needs.{needs}
 use Rattle.sheet.specs.Walk.{left}
-use Rattle.trades.specs.Pass.{Passing, pass-start, pass-done, pass-small, pass-headed, pass-inside, pass-fits, pass-sound, pass-trade, pass-nothing, pass-other, counted-on}
+use Rattle.trades.specs.Pass.{Passing, pass-start, pass-done, pass-small, pass-three, pass-inside, pass-fits, pass-sound, pass-trade, pass-nothing, pass-other, counted-on}
 use Rattle.trades.proofs.totals_of.Statement.{statement}
 use Rattle.trades.proofs.totals_of.Tie as tie
 
-ruleset adding = (pass-start, pass-done, pass-small, pass-headed, pass-inside, pass-fits, pass-sound, pass-trade, pass-nothing, pass-other, counted-on, needs)
+ruleset adding = (pass-start, pass-done, pass-small, pass-three, pass-inside, pass-fits, pass-sound, pass-trade, pass-nothing, pass-other, counted-on, needs)
 
 abbrev Inv-loop : tie.InvT-loop
 Inv-loop sheet metal totals₀ at₀ totals at = Passing metal sheet at totals
@@ -28,8 +28,8 @@ size-of-requires c κs = search adding
 add-next : tie.Need-add-next Inv-loop μ-loop
 add-next c = search adding
 
-field-here-requires : tie.Need-field-here-requires Inv-loop μ-loop
-field-here-requires c κs = search adding
+trade-here-requires : tie.Need-trade-here-requires Inv-loop μ-loop
+trade-here-requires c κs = search adding
 
 count-field-requires : tie.Need-count-field-requires Inv-loop μ-loop
 count-field-requires c κs = search adding
@@ -90,7 +90,7 @@ totals-of-spec =
     shared-slice-read-tag
     size-of-requires
     add-next
-    field-here-requires
+    trade-here-requires
     count-field-requires
     enum-known-instrument
     cast-i
