@@ -1,0 +1,69 @@
+/* The deepest stack of each function of the archive: each is called on a painted stack of its own over the sheets named on the command line,
+   and the paint that is gone is counted, less that of an empty call. It takes no memory from the heap itself, so valgrind, where nothing is
+   painted, counts the library's. */
+#include <fcntl.h>
+#include <stdint.h>
+#include <stdio.h>
+#include <string.h>
+#include <ucontext.h>
+#include <unistd.h>
+#include <valgrind/valgrind.h>
+#include "bliskoru.h"
+
+enum { STACK = 1 << 20, PAINT = 0xA5 };
+
+static uint8_t stack[STACK] __attribute__((aligned(64)));
+static uint8_t sheet[1048576], out[512];
+static size_t len, place;
+static uint64_t answers[18];
+static int64_t values[6];
+static ucontext_t here, there;
+
+static void nothing(void) {}
+static void list(void) { bliskoru_list(sheet, len, out, sizeof out); }
+static void judge(void) { bliskoru_judge(sheet, len, &place); }
+static void price(void) { bliskoru_answers(sheet, len, answers, &place); }
+static void read_all(void) {
+    size_t at = 0;
+    while (bliskoru_read(sheet, len, at, values, &at) == 0)
+        ;
+}
+static void write_one(void) { bliskoru_write_quote(out, sizeof out, 0, 58500000, 0, 3, 1800000, 1800010, &place); }
+
+static size_t depth(void (*run)(void)) {
+    if (RUNNING_ON_VALGRIND) {
+        run();
+        return 0;
+    }
+    memset(stack, PAINT, sizeof stack);
+    getcontext(&there);
+    there.uc_stack.ss_sp = stack;
+    there.uc_stack.ss_size = sizeof stack;
+    there.uc_link = &here;
+    makecontext(&there, run, 0);
+    swapcontext(&here, &there);
+    size_t untouched = 0;
+    while (untouched < sizeof stack && stack[untouched] == PAINT) untouched++;
+    return sizeof stack - untouched;
+}
+
+static int say(const char *name, void (*run)(void)) {
+    char line[80];
+    int n = snprintf(line, sizeof line, "%-8s %zu bytes of stack\n", name, depth(run) - depth(nothing));
+    return write(1, line, n) == n;
+}
+
+int main(int count, char **names) {
+    for (int i = 1; i < count; i++) {
+        int file = open(names[i], O_RDONLY);
+        ssize_t got = 0;
+        for (len = 0; (got = read(file, sheet + len, sizeof sheet - len)) > 0; len += got)
+            ;
+        close(file);
+        char line[300];
+        int n = snprintf(line, sizeof line, "%s, %zu bytes\n", names[i], len);
+        if (write(1, line, n) != n) return 1;
+        say("list", list), say("judge", judge), say("answers", price), say("read", read_all), say("write", write_one);
+    }
+    return 0;
+}
