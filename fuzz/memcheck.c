@@ -1,0 +1,195 @@
+/* Calls every function of the archive with memory of exactly the size it is lent, each piece in a heap block of its own, so that valgrind sees
+   every byte that is read or written outside it and every byte that is told without having been written.
+   memcheck SHEET STREAM: a sheet that is cut and flipped, and a stream of many sheets (four bytes of length, then the sheet). */
+#include <stdint.h>
+#include <stdio.h>
+#include <stdlib.h>
+#include <string.h>
+#include "bliskoru.h"
+
+enum { LIMIT = 1048576, LIST = 512, PRICED_OF = 25 };
+
+static unsigned long calls, sheets, priced, accepted;
+static uint64_t sum; /* of all that the calls told: printed, so that a byte that was never written is noticed */
+
+static void fail(const char *what) {
+    printf("memcheck: %s\n", what);
+    exit(1);
+}
+
+static void *block(size_t size) {
+    void *p = malloc(size);
+    if (!p) fail("no memory");
+    return p;
+}
+
+static uint8_t *copy(const uint8_t *bytes, size_t size) {
+    uint8_t *p = block(size);
+    memcpy(p, bytes, size);
+    return p;
+}
+
+static void read_at(const uint8_t *sheet, size_t len, size_t at) {
+    int64_t *values = block(6 * sizeof *values);
+    size_t *next = block(sizeof *next);
+    if (bliskoru_read(sheet, len, at, values, next) == 0) {
+        for (int i = 0; i < 6; i++) sum += (uint64_t)values[i];
+        sum += *next;
+    }
+    calls++;
+    free(values), free(next);
+}
+
+/* The list into a buffer of this size: whole, or not a byte changed. */
+static void list_into(const uint8_t *sheet, size_t len, size_t room) {
+    uint8_t *out = block(room);
+    memset(out, 0xA5, room);
+    size_t told = bliskoru_list(sheet, len, out, room);
+    if (told > room) fail("a list longer than its buffer");
+    for (size_t i = told; i < room; i++)
+        if (out[i] != 0xA5) fail("a byte behind the list was changed");
+    for (size_t i = 0; i < told; i++) sum += out[i];
+    calls++;
+    free(out);
+}
+
+static void price(const uint8_t *sheet, size_t len) {
+    uint64_t *answers = block(18 * sizeof *answers);
+    size_t *at = block(sizeof *at);
+    if (bliskoru_answers(sheet, len, answers, at) == 0)
+        for (int i = 0; i < 18; i++) sum += answers[i];
+    else
+        sum += *at;
+    calls++;
+    list_into(sheet, len, LIST);
+    priced++;
+    free(answers), free(at);
+}
+
+/* Judged, read at every place (a long sheet at a few), and priced where that is quick, or where it is this sheet's turn: a contract by TWAP
+   visits 300,000 milliseconds, which takes valgrind a while. */
+static void everything(const uint8_t *bytes, size_t len) {
+    uint8_t *sheet = copy(bytes, len);
+    size_t *at = block(sizeof *at);
+    uint8_t number = bliskoru_judge(sheet, len, at);
+    sum += number ? *at : 0;
+    calls++, sheets++;
+    if (number) price(sheet, len);
+    else if (accepted++ % PRICED_OF == 0) price(sheet, len);
+    size_t step = len < 2000 ? 1 : len / 500;
+    for (size_t place = 0; place <= len + 3; place += step) read_at(sheet, len, place);
+    read_at(sheet, len, SIZE_MAX), read_at(sheet, len, SIZE_MAX - 2);
+    free(sheet), free(at);
+}
+
+static void cuts(const uint8_t *sheet, size_t len) {
+    for (size_t n = 0; n <= len; n++) everything(sheet, n);
+}
+
+static void flips(const uint8_t *sheet, size_t len) {
+    uint8_t *flipped = copy(sheet, len);
+    for (size_t bit = 0; bit < 8 * len; bit++) {
+        flipped[bit / 8] ^= 1u << bit % 8;
+        everything(flipped, len);
+        flipped[bit / 8] ^= 1u << bit % 8;
+    }
+    free(flipped);
+}
+
+/* One writer over a buffer of this size at this place, with values inside or outside their ranges. */
+static uint8_t write_one(int kind, uint8_t *buffer, size_t len, size_t at, int good, size_t *next) {
+    switch (kind) {
+    case 0: return bliskoru_write_header(buffer, len, at, good ? 5 : 6, 2047, next);
+    case 1: return bliskoru_write_previous_close(buffer, len, at, 11, good ? -9999999 : -10000000, next);
+    case 2: return bliskoru_write_trade(buffer, len, at, 86399999, 0, 99999999, good ? 10000 : 10001, next);
+    case 3: return bliskoru_write_quote(buffer, len, at, 0, 1, 3, good ? 0 : 1, 0, next);
+    default: return bliskoru_write_end(buffer, len, at, good ? UINT32_MAX : 0, next);
+    }
+}
+
+static void write_at(int kind, size_t len, size_t at, int good) {
+    uint8_t *buffer = block(len), *before = block(len);
+    size_t *next = block(sizeof *next);
+    memset(buffer, 0x5A, len), memset(before, 0x5A, len);
+    if (write_one(kind, buffer, len, at, good, next) == 0) {
+        if (*next > len || *next < at) fail("a place outside the buffer");
+        if (memcmp(buffer, before, at) || memcmp(buffer + *next, before, len - *next)) fail("a byte outside the field was changed");
+        sum += *next;
+        read_at(buffer, *next, at);
+    } else if (memcmp(buffer, before, len))
+        fail("a refused write changed a byte");
+    calls++;
+    free(buffer), free(before), free(next);
+}
+
+static void writers(void) {
+    for (int kind = 0; kind < 5; kind++)
+        for (int good = 0; good < 2; good++)
+            for (size_t len = 0; len <= 20; len++) {
+                for (size_t at = 0; at <= len + 1; at++) write_at(kind, len, at, good);
+                for (size_t less = 0; less < 20; less++) write_at(kind, len, SIZE_MAX - less, good);
+            }
+}
+
+/* A sheet at its limit and one byte longer, with one field behind the other. */
+static void longest(void) {
+    uint8_t *sheet = block(LIMIT + 1);
+    size_t at = 0;
+    memset(sheet, 0, LIMIT + 1);
+    bliskoru_write_header(sheet, LIMIT, at, 1, 0, &at);
+    while (bliskoru_write_trade(sheet, LIMIT, at, 58500000, 0, 1800000, 1, &at) == 0) calls++;
+    everything(sheet, LIMIT), everything(sheet, LIMIT + 1);
+    free(sheet);
+}
+
+/* A sheet with all contracts by VWAP, which is quick to price. */
+static size_t quick_sheet(uint8_t *sheet, size_t room) {
+    static const uint8_t spreads[5] = {1, 3, 5, 7, 11};
+    size_t at = 0;
+    bliskoru_write_header(sheet, room, at, 1, 0, &at);
+    for (int i = 0; i < 5; i++) bliskoru_write_trade(sheet, room, at, 58200000, spreads[i], -300, 6, &at);
+    bliskoru_write_trade(sheet, room, at, 58500000, 0, 1800040, 6, &at);
+    bliskoru_write_end(sheet, room, at, 7, &at);
+    calls += 8;
+    return at;
+}
+
+static uint8_t *file(const char *name, size_t *len) {
+    FILE *f = fopen(name, "rb");
+    if (!f) fail(name);
+    uint8_t *bytes = block(1 << 24);
+    *len = fread(bytes, 1, 1 << 24, f);
+    fclose(f);
+    return bytes;
+}
+
+static void stream(const uint8_t *bytes, size_t len) {
+    for (size_t at = 0; at + 4 <= len;) {
+        size_t n = (size_t)bytes[at] << 24 | bytes[at + 1] << 16 | bytes[at + 2] << 8 | bytes[at + 3];
+        everything(bytes + at + 4, n);
+        at += 4 + n;
+    }
+}
+
+int main(int count, char **names) {
+    if (count != 3) fail("usage: memcheck SHEET STREAM");
+    size_t len;
+    uint8_t *given = file(names[1], &len);
+    cuts(given, len), flips(given, len);
+    free(given);
+
+    uint8_t made[200];
+    len = quick_sheet(made, sizeof made);
+    cuts(made, len), flips(made, len);
+    uint8_t *quick = copy(made, len);
+    for (size_t room = 0; room <= LIST; room++) list_into(quick, len, room);
+    free(quick);
+
+    writers();
+    longest();
+    uint8_t *many = file(names[2], &len);
+    stream(many, len);
+    free(many);
+    printf("memcheck: %lu calls over %lu sheets, %lu of them priced; sum %llu\n", calls, sheets, priced, (unsigned long long)sum);
+    return 0;
+}

@@ -1,0 +1,116 @@
+//! The independent program's answers for a C program: judgement, six answers,
+//! list and one field, each TWAP by spans. The features plant a wrong rule.
+
+mod planted;
+
+use independent::field::{read_field, Field};
+use independent::list::list_text;
+use independent::tables::LIST_LIMIT;
+use independent::{Answer, Method};
+use std::slice;
+
+/// # Safety
+/// `sheet` and `len` are those of a slice that lives as long as the call.
+unsafe fn lent<'a>(sheet: *const u8, len: usize) -> &'a [u8] {
+    unsafe { slice::from_raw_parts(sheet, len) }
+}
+
+/// 0, or the refusal's number with its byte in `at`.
+///
+/// # Safety
+/// `sheet` and `len` are a live slice's, `at` is a live number.
+#[no_mangle]
+pub unsafe extern "C" fn second_judge(sheet: *const u8, len: usize, at: &mut usize) -> u8 {
+    match planted::judge(unsafe { lent(sheet, len) }) {
+        Ok(_) => 0,
+        Err((number, byte)) => {
+            *at = byte;
+            number
+        }
+    }
+}
+
+/// 0 and three numbers for each contract, or the refusal's number with its byte
+/// in `at`.
+///
+/// # Safety
+/// As for [`second_judge`]; `rows` are live.
+#[no_mangle]
+pub unsafe extern "C" fn second_answers(
+    sheet: *const u8,
+    len: usize,
+    rows: &mut [u64; 18],
+    at: &mut usize,
+) -> u8 {
+    let day = match planted::judge(unsafe { lent(sheet, len) }) {
+        Ok(day) => day,
+        Err((number, byte)) => {
+            *at = byte;
+            return number;
+        }
+    };
+    for (row, answer) in rows.chunks_exact_mut(3).zip(planted::price(&day)) {
+        let numbers = match answer {
+            Answer::Priced { method, price, lots } => {
+                [if method == Method::Vwap { 1 } else { 2 }, price as u64, lots]
+            }
+            Answer::Refused { number, lots } => [number.into(), 0, lots],
+        };
+        row.copy_from_slice(&numbers);
+    }
+    0
+}
+
+/// The list's length; the list is longer than `room` nowhere.
+///
+/// # Safety
+/// As for [`second_judge`]; `out` and `room` are a live slice's.
+#[no_mangle]
+pub unsafe extern "C" fn second_list(sheet: *const u8, len: usize, out: *mut u8, room: usize) -> usize {
+    let text = if len > LIST_LIMIT {
+        "too long\n".to_string()
+    } else {
+        list_text(&planted::judge(unsafe { lent(sheet, len) }), planted::price)
+    };
+    let out = unsafe { slice::from_raw_parts_mut(out, room) };
+    out[..text.len()].copy_from_slice(text.as_bytes());
+    text.len()
+}
+
+fn values_of(field: Field) -> [i64; 6] {
+    match field {
+        Field::Header(f) => [1, f.metal.into(), f.marks.into(), 0, 0, 0],
+        Field::PreviousClose(f) => [2, f.instrument.into(), f.price.into(), 0, 0, 0],
+        Field::Trade(f) => {
+            let instrument = f.instrument.into();
+            [3, f.time.into(), instrument, f.price.into(), f.lots.into(), 0]
+        }
+        Field::Quote(f) => {
+            let (instrument, sides) = (f.instrument.into(), f.sides.into());
+            [4, f.time.into(), instrument, sides, f.bid.into(), f.offer.into()]
+        }
+        Field::End(f) => [5, f.count.into(), 0, 0, 0, 0],
+    }
+}
+
+/// 0, the field's tag and values and the place behind it, or the refusal's number.
+///
+/// # Safety
+/// As for [`second_judge`]; `values` and `next` are live.
+#[no_mangle]
+pub unsafe extern "C" fn second_read(
+    sheet: *const u8,
+    len: usize,
+    at: usize,
+    values: &mut [i64; 6],
+    next: &mut usize,
+) -> u8 {
+    match read_field(unsafe { lent(sheet, len) }, at) {
+        Ok((field, behind)) => {
+            *values = values_of(field);
+            *next = behind;
+            0
+        }
+        Err((number, _)) => number,
+    }
+}

@@ -1,0 +1,47 @@
+//! The rules as they are, and with one of them wrong where a feature asks for it.
+
+use independent::field::{take_field, Field, Refusal};
+use independent::pricing::price_day_by_spans;
+use independent::sheet::Record;
+use independent::tables::{metal_row, window_start, WINDOW};
+use independent::{judge_sheet, Answer, Day};
+
+/// The judgement. Wrong under `equal-sides`: a bid equal to the offer is 11.
+pub fn judge(sheet: &[u8]) -> Result<Day, Refusal> {
+    let judged = judge_sheet(sheet);
+    if !cfg!(feature = "equal-sides") {
+        return judged;
+    }
+    let behind = match &judged {
+        Ok(_) => sheet.len(),
+        Err((_, byte)) => *byte,
+    };
+    let mut at = 0;
+    while at < behind {
+        let Ok((field, next)) = take_field(sheet, at) else {
+            break;
+        };
+        if matches!(field, Field::Quote(quote) if quote.sides == 3 && quote.bid == quote.offer) {
+            return Err((11, at));
+        }
+        at = next;
+    }
+    judged
+}
+
+/// The six answers. Wrong under `window-end`: a trade at start + 300,000 counts.
+pub fn price(day: &Day) -> [Answer; 6] {
+    if !cfg!(feature = "window-end") {
+        return price_day_by_spans(day);
+    }
+    let mut day = day.clone();
+    for record in &mut day.records {
+        let (Record::Trade(trade), Some(metal)) = (record, metal_row(day.metal)) else {
+            continue;
+        };
+        if trade.time == window_start(metal, trade.instrument) + WINDOW {
+            trade.time -= 1;
+        }
+    }
+    price_day_by_spans(&day)
+}
