@@ -7,7 +7,7 @@
 #include <string.h>
 #include "bliskoru.h"
 
-enum { LIMIT = 1048576, LIST = 512, PRICED_OF = 25 };
+enum { LIMIT = 1048576, LIST = 512, PRICED_OF = 10 };
 
 static unsigned long calls, sheets, priced, accepted;
 static uint64_t sum; /* of all that the calls told: printed, so that a byte that was never written is noticed */

@@ -40,9 +40,15 @@ fn least_times(work: &Work, sheet: &[u8]) -> (Vec<f64>, usize) {
     (least, rounds)
 }
 
+/// The works named on the command line, or all.
+fn wanted(name: &str) -> bool {
+    let mut names = std::env::args().skip(1).peekable();
+    names.peek().is_none() || names.any(|wanted| wanted == name)
+}
+
 fn main() {
     println!("work     sheet   bytes    rounds  library ns  ns/byte  and the others: ns (library / it)");
-    for work in &ALL {
+    for work in ALL.iter().filter(|work| wanted(work.name)) {
         for kind in KINDS {
             for bytes in SIZES.into_iter().filter(|bytes| *bytes <= work.limit) {
                 let sheet = sheet(kind, bytes);

@@ -1,6 +1,7 @@
 //! The pieces of work that are timed and counted, by name, for each side.
 
 use crate::{library, second};
+use independent::field::read_field;
 use independent::list::{closing_list, closing_list_by_spans};
 use std::hint::black_box;
 
@@ -25,6 +26,15 @@ fn walk(sheet: &[u8], read: Reader) {
     let mut at = 0;
     while let Ok((values, next)) = read(sheet, at) {
         black_box(values);
+        at = next;
+    }
+}
+
+/// The same by the independent program, each field left as it hands it back.
+fn walk_fields(sheet: &[u8]) {
+    let mut at = 0;
+    while let Ok((field, next)) = read_field(sheet, at) {
+        black_box(field);
         at = next;
     }
 }
@@ -54,7 +64,8 @@ pub const ALL: [Work; 4] = [
         limit: 1_048_576,
         ways: &[
             Way { side: "library", run: |sheet| walk(sheet, library::read) },
-            Way { side: "independent", run: |sheet| walk(sheet, second::read) },
+            Way { side: "fields", run: walk_fields },
+            Way { side: "numbers", run: |sheet| walk(sheet, second::read) },
         ],
     },
     Work {
