@@ -190,6 +190,6 @@ int main(int count, char **names) {
     uint8_t *many = file(names[2], &len);
     stream(many, len);
     free(many);
-    printf("memcheck: %lu calls over %lu sheets, %lu of them priced; sum %llu\n", calls, sheets, priced, (unsigned long long)sum);
+    printf("memcheck: %lu calls over %lu sheets, %lu of them given to list and answers; sum %llu\n", calls, sheets, priced, (unsigned long long)sum);
     return 0;
 }
