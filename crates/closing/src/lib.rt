@@ -1,5 +1,5 @@
-// What the six answers of a day sheet are, by document 01's tables, and the sums that they are priced from: lots, and lots times implied price.
-// Hosts do not call it: what its functions ask of their caller, `answers` has from an accepted sheet.
+// The definitions of the six answers, and the sums that they are priced from: lots, and lots times implied price. Hosts do not call it: what
+// its functions ask of their caller, `answers` has from an accepted sheet.
 ghost use mathlib.Core.Path.{_≡_};
 ghost use Prim.Native.Nat.{_+_, _*_, _≤_, _<_};
 ghost use lib.IntN.{pos, natAbs};

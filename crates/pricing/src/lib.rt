@@ -1,5 +1,5 @@
-// One contract's answer, by its row of document 01's tables and the closes before it: the mean of its trades or of its indicator, rounded once.
-// Hosts do not call it: what its functions ask of their caller, `answers` has from an accepted sheet.
+// One contract's answer, by its row of document 01's tables and the closes before it, rounded once. Hosts do not call it: what its functions
+// ask of their caller, `answers` has from an accepted sheet.
 ghost use mathlib.Core.Path.{_≡_};
 ghost use Prim.Native.Nat.{_<_};
 ghost use Rattle.closing.specs.Closing.{twapBy, answered, rowAnswer, answerBy};
