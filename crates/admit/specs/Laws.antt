@@ -9,7 +9,7 @@ use lib.Dec.{leb, ltb, eqb}
 use Rattle.field.specs.declared.Field.{Field}
 use Rattle.field.specs.declared.Field.the-variants.{Header, PreviousClose, Trade, Quote, End}
 use Rattle.field.specs.declared.Price.{Price}
-use Rattle.field.specs.Judging.{fine, judge}
+use Rattle.field.specs.Judging.{fine, also, judge}
 use Rattle.field.specs.Layout.{tagOf}
 use Rattle.field.specs.Laws.{clash, unless-fine, unless-passed, unless-all, also-fine, also-all, judge-all, both-true}
 use Rattle.field.specs.Sound.{Sound, sound, sound-lower}
@@ -42,6 +42,16 @@ passed p f e =
     let v = unless-fine (placed p f) 4 _ (u .1) in
     let w = also-fine (judge (p .time) f) (countNumber p f) (v .1) in
     record { room = ltb-true (p .count) 1048576 (u .0); place = v .0; values = w .0; counted = w .1 }
+
+-- and such a field is taken
+pub passed-taken : (p : Progress) (f : Field) → Passed p f → admit p f ≡ admitted p f
+unfolding admitNumber also
+passed-taken p f h =
+    let values : also (judge (p .time) f) (countNumber p f) ≡ fine = simp (h .values, h .counted) in
+    admit-fine p f
+    (unless-passed (ltb (p .count) 1048576) 1 _ (lt-ltb (p .count) 1048576 (h .room))
+    ∙ unless-passed (placed p f) 5 _ (h .place)
+    ∙ values)
 
 -- a step that is not a stop
 abbrev Free : Step → Type 0

@@ -44,7 +44,7 @@ pub fn begin() -> Progress
 }
 
 // Previous closes come with rising instrument, before any trade or quote.
-fn previous_placed(p: Progress, instrument: u8) -> bool
+pub fn previous_placed(p: Progress, instrument: u8) -> bool
     ensures { λ r. ⌜ r ≡ Admitting.previousPlaced p instrument ⌝ }
 {
     let rises = p.instrument <= instrument as u16;
@@ -115,7 +115,7 @@ fn admit_number(p: Progress, field: Field) -> u8
 }
 
 // What is kept behind a previous close.
-fn after_previous(p: Progress, instrument: u8) -> Progress
+pub fn after_previous(p: Progress, instrument: u8) -> Progress
     requires { ⌜ p .count < 1048576 ⌝ }
     ensures { λ r. ⌜ r ≡ Admitting.afterPrevious p instrument ⌝ }
 {
@@ -130,7 +130,7 @@ fn after_previous(p: Progress, instrument: u8) -> Progress
 }
 
 // What is kept behind a trade or a quote.
-fn after_record(p: Progress, time: u32) -> Progress
+pub fn after_record(p: Progress, time: u32) -> Progress
     requires { ⌜ p .count < 1048576 ⌝ }
     ensures { λ r. ⌜ r ≡ Admitting.afterRecord p time ⌝ }
 {
@@ -145,7 +145,7 @@ fn after_record(p: Progress, time: u32) -> Progress
 }
 
 // What is kept behind the header.
-fn after_header(p: Progress, metal: u8, marks: u16) -> Progress
+pub fn after_header(p: Progress, metal: u8, marks: u16) -> Progress
     requires { ⌜ p .count < 1048576 ⌝ }
     ensures { λ r. ⌜ r ≡ Admitting.afterHeader p metal marks ⌝ }
 {

@@ -11,7 +11,8 @@ use wire::join2;
 use wire::join4;
 use wire::signed_of;
 
-fn price_at(body: &[u8], at: usize) -> Price
+// The price at a place of a body.
+pub fn price_at(body: &[u8], at: usize) -> Price
     requires { ⌜ at + 4 ≤ length (now body) ⌝ }
     ensures { λ r. ⌜ r ≡ priceAt (now (body .entry)) at ⌝ }
 {
@@ -66,7 +67,8 @@ fn quote_of(body: &[u8]) -> Field
     }
 }
 
-fn end_of(body: &[u8]) -> Field
+// The values of an end's body.
+pub fn end_of(body: &[u8]) -> Field
     requires { ⌜ length (now body) ≡ 4 ⌝ }
     ensures { λ r. ⌜ r ≡ endOf (now (body .entry)) ⌝ }
 {

@@ -8,6 +8,16 @@ use Rattle.field.proofs.judge.is_within.Reads as is-within
 use Rattle.field.proofs.judge.is_within.Kinds as is-withinK
 use Rattle.field.proofs.judge.judge.Reads as judge
 use Rattle.field.proofs.judge.judge.Kinds as judgeK
+use Rattle.field.proofs.judge.judge_header.Reads as judge-header
+use Rattle.field.proofs.judge.judge_header.Kinds as judge-headerK
+use Rattle.field.proofs.judge.judge_previous.Reads as judge-previous
+use Rattle.field.proofs.judge.judge_previous.Kinds as judge-previousK
+use Rattle.field.proofs.judge.judge_trade.Reads as judge-trade
+use Rattle.field.proofs.judge.judge_trade.Kinds as judge-tradeK
+use Rattle.field.proofs.judge.judge_quote.Reads as judge-quote
+use Rattle.field.proofs.judge.judge_quote.Kinds as judge-quoteK
+use Rattle.field.proofs.judge.both_sides_right.Reads as both-sides-right
+use Rattle.field.proofs.judge.both_sides_right.Kinds as both-sides-rightK
 use Rattle.field.proofs.layout.tag_right.Reads as tag-right
 use Rattle.field.proofs.layout.tag_right.Kinds as tag-rightK
 use Rattle.field.proofs.layout.length_of.Reads as length-of
@@ -18,6 +28,8 @@ use Rattle.field.proofs.layout.tag_of.Reads as tag-of
 use Rattle.field.proofs.layout.tag_of.Kinds as tag-ofK
 use Rattle.field.proofs.layout.remaining.Reads as remaining
 use Rattle.field.proofs.layout.remaining.Kinds as remainingK
+use Rattle.field.proofs.layout.stands.Reads as stands
+use Rattle.field.proofs.layout.stands.Kinds as standsK
 
 pub unless-once : Once 0 unlessK.ps unlessK.r unless.Post (λ κs x s. x)
 unless-once κs a x y s t p q = once p q
@@ -30,6 +42,21 @@ is-within-once κs a x y s t p q = once p q
 
 pub judge-once : Once 0 judgeK.ps judgeK.r judge.Post (λ κs x s. x)
 judge-once κs a x y s t p q = once p q
+
+pub judge-header-once : Once 0 judge-headerK.ps judge-headerK.r judge-header.Post (λ κs x s. x)
+judge-header-once κs a x y s t p q = once p q
+
+pub judge-previous-once : Once 0 judge-previousK.ps judge-previousK.r judge-previous.Post (λ κs x s. x)
+judge-previous-once κs a x y s t p q = once p q
+
+pub judge-trade-once : Once 0 judge-tradeK.ps judge-tradeK.r judge-trade.Post (λ κs x s. x)
+judge-trade-once κs a x y s t p q = once p q
+
+pub judge-quote-once : Once 0 judge-quoteK.ps judge-quoteK.r judge-quote.Post (λ κs x s. x)
+judge-quote-once κs a x y s t p q = once p q
+
+pub both-sides-right-once : Once 0 both-sides-rightK.ps both-sides-rightK.r both-sides-right.Post (λ κs x s. x)
+both-sides-right-once κs a x y s t p q = once p q
 
 pub tag-right-once : Once 0 tag-rightK.ps tag-rightK.r tag-right.Post (λ κs x s. x)
 tag-right-once κs a x y s t p q = once p q
@@ -45,3 +72,6 @@ tag-of-once κs a x y s t p q = once p q
 
 pub remaining-once : Once 0 remainingK.ps remainingK.r remaining.Post (λ κs x s. x)
 remaining-once κs a x y s t p q = once p q
+
+pub stands-once : Once 1 standsK.ps standsK.r stands.Post (λ κs x s. x)
+stands-once κs a x y s t p q = once p q

@@ -5,3 +5,5 @@ pub mod Reading
 pub mod Writing
 pub mod Laws
 pub mod Sound
+pub mod Ends
+pub mod Standing

@@ -1,8 +1,10 @@
 // What document 01's ranges say of a field's values: the first number that they earn, or FINE.
 ghost use mathlib.Core.Path.{_≡_};
 ghost use lib.IntN.{pos};
+ghost use lib.Signed.{leZ};
 ghost use Rattle.field.specs.Judging.{within, centsWithin, ifPresent, ifAbsent, headerRight, timeRight, priceRight, hasBid, hasOffer, sidesRight, sidePricesRight, ordered, stamped};
 ghost use Rattle.field.specs.Judging as Judging;
+ghost use Rattle.field.specs.Ends.{lowestPrice, highestPrice, bothSidesRight};
 ghost use Rattle.field.specs.declared.Field.the-variants as F;
 use crate::Field;
 use crate::Price;
@@ -60,14 +62,40 @@ fn time_right(least: u32, time: u32) -> bool
     both(time <= 86_399_999, least <= time)
 }
 
-// An outright is 1 to 99,999,999 cents, a spread -9,999,999 to 9,999,999.
+// The lowest and the highest price of an instrument: of an outright 1 and 99,999,999 cents, of a spread -9,999,999 and 9,999,999.
+fn lowest(instrument: u8) -> Price
+    ensures { λ r. ⌜ r ≡ lowestPrice instrument ⌝ }
+{
+    if instrument == 0 {
+        Price { cents: 1 }
+    } else {
+        Price { cents: -9_999_999 }
+    }
+}
+
+fn highest(instrument: u8) -> Price
+    ensures { λ r. ⌜ r ≡ highestPrice instrument ⌝ }
+{
+    if instrument == 0 {
+        Price { cents: 99_999_999 }
+    } else {
+        Price { cents: 9_999_999 }
+    }
+}
+
+fn at_most(a: Price, b: Price) -> bool
+    ensures { λ r. ⌜ r ≡ leZ (a .cents) (b .cents) ⌝ }
+{
+    a.cents <= b.cents
+}
+
+// One comparison with each end, whatever the instrument is.
 fn price_right(instrument: u8, price: Price) -> bool
     ensures { λ r. ⌜ r ≡ priceRight instrument price ⌝ }
 {
-    pick(
-        instrument == 0,
-        cents_within(1, 99_999_999, price),
-        cents_within(-9_999_999, 9_999_999, price),
+    both(
+        at_most(lowest(instrument), price),
+        at_most(price, highest(instrument)),
     )
 }
 
@@ -135,7 +163,14 @@ fn stamp(least: u32, time: u32, instrument: u8, rest: u8) -> u8
     )
 }
 
-fn judge_previous(instrument: u8, price: Price) -> u8
+// A field's values, for callers that have them as numbers: a header's, a previous close's, a trade's and a quote's.
+pub fn judge_header(metal: u8, marks: u16) -> u8
+    ensures { λ r. ⌜ r ≡ Judging.judge 0 (F.Header metal marks) ⌝ }
+{
+    unless(header_right(metal, marks), number::METAL, number::FINE)
+}
+
+pub fn judge_previous(instrument: u8, price: Price) -> u8
     ensures { λ r. ⌜ r ≡ Judging.judge 0 (F.PreviousClose instrument price) ⌝ }
 {
     unless(
@@ -145,7 +180,7 @@ fn judge_previous(instrument: u8, price: Price) -> u8
     )
 }
 
-fn judge_trade(least: u32, time: u32, instrument: u8, price: Price, lots: u16) -> u8
+pub fn judge_trade(least: u32, time: u32, instrument: u8, price: Price, lots: u16) -> u8
     ensures { λ r. ⌜ r ≡ Judging.judge least (F.Trade time instrument price lots) ⌝ }
 {
     let rest = unless(
@@ -160,7 +195,7 @@ fn judge_trade(least: u32, time: u32, instrument: u8, price: Price, lots: u16) -
     stamp(least, time, instrument, rest)
 }
 
-fn judge_quote(least: u32, time: u32, instrument: u8, sides: u8, bid: Price, offer: Price) -> u8
+pub fn judge_quote(least: u32, time: u32, instrument: u8, sides: u8, bid: Price, offer: Price) -> u8
     ensures { λ r. ⌜ r ≡ Judging.judge least (F.Quote time instrument sides bid offer) ⌝ }
 {
     let prices = unless(
@@ -172,14 +207,23 @@ fn judge_quote(least: u32, time: u32, instrument: u8, sides: u8, bid: Price, off
     stamp(least, time, instrument, rest)
 }
 
+// Whether a quote with both sides is right, its time put aside: where the bid is not above the offer, each end is asked of one side alone.
+pub fn both_sides_right(instrument: u8, bid: Price, offer: Price) -> bool
+    ensures { λ r. ⌜ r ≡ bothSidesRight instrument bid offer ⌝ }
+{
+    let upward = both(at_most(bid, offer), at_most(offer, highest(instrument)));
+    both(
+        instrument <= 11,
+        both(at_most(lowest(instrument), bid), upward),
+    )
+}
+
 // The first number that a field's values earn where times must not be below least, or FINE.
 pub fn judge(least: u32, field: Field) -> u8
     ensures { λ r. ⌜ r ≡ Judging.judge least field ⌝ }
 {
     match field {
-        Field::Header { metal, marks } => {
-            unless(header_right(metal, marks), number::METAL, number::FINE)
-        }
+        Field::Header { metal, marks } => judge_header(metal, marks),
         Field::PreviousClose { instrument, price } => judge_previous(instrument, price),
         Field::Trade {
             time,

@@ -2,8 +2,21 @@
 ghost use mathlib.Core.Path.{_≡_};
 ghost use Prim.Native.Nat.{_-_};
 ghost use Rattle.field.specs.Layout.{tagRight, lengthOf, sizeOf, tagOf};
+ghost use Rattle.field.specs.Standing as Standing;
 use crate::Field;
 use crate::judge::is_within;
+use wire::join2;
+
+// The tags.
+pub const HEADER: u8 = 1;
+
+pub const PREVIOUS_CLOSE: u8 = 2;
+
+pub const TRADE: u8 = 3;
+
+pub const QUOTE: u8 = 4;
+
+pub const END: u8 = 5;
 
 // The lengths of the bodies, by tag; no tag is 0.
 const LENGTHS: [u16; 6] = [0, 3, 5, 11, 14, 4];
@@ -61,4 +74,20 @@ pub fn remaining(len: usize, at: usize) -> usize
     ensures { λ r. ⌜ r ≡ len - at ⌝ }
 {
     if at < len { len - at } else { 0 }
+}
+
+// Whether a tag, its length and so many bytes as its field has stand at a place: a head that earns no number.
+pub fn stands(sheet: &[u8], at: usize, tag: u8) -> bool
+    ensures { λ r. ⌜ r ≡ Standing.stands (now (sheet .entry)) at tag ⌝ }
+{
+    if remaining(sheet.len(), at) < size_of(tag) {
+        return false;
+    }
+    let here = sheet[at];
+    if here != tag {
+        return false;
+    }
+    let length = at + 1;
+    let told = join2(sheet[length], sheet[length + 1]);
+    told == length_of(tag)
 }

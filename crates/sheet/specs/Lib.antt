@@ -6,3 +6,5 @@ pub mod Led
 pub mod Accepted
 pub mod Encoding
 pub mod Earned
+pub mod Track
+pub mod Past

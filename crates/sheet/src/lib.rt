@@ -1,16 +1,33 @@
 // A whole day sheet: accepted, with the header's values and the number of fields, or one numbered refusal with its byte. Its laws serve every
 // pass over a sheet's bytes.
 ghost use mathlib.Core.Path.{_≡_};
-ghost use Prim.Native.Nat.{_<_};
+ghost use Prim.Native.Nat.{_+_, _<_, _≤_};
+ghost use lib.ListN.{length, getD};
+ghost use Rattle.wire.specs.Big.{be2At, be4At};
+ghost use Rattle.admit.specs.Admitting.{start, afterHeader};
 ghost use Rattle.sheet.specs.Fields.{oneIf};
 ghost use Rattle.sheet.specs.Judgement.{atEnd, judgeSheet, judgedSays};
+ghost use Rattle.sheet.specs.Track.{OnTrack};
+ghost use Rattle.sheet.specs.Past.{recordSize, Opened, Nearly};
 use admit::Admitted;
 use admit::Progress;
 use admit::admit;
+use admit::after_header;
+use admit::after_previous;
+use admit::after_record;
 use admit::begin;
+use admit::previous_placed;
 use field::Read;
+use field::layout;
+use field::layout::stands;
 use field::number;
 use reader::shape_at;
+use right_field::right_header;
+use right_field::right_previous;
+use right_field::right_quote;
+use right_field::right_trade;
+use wire::join2;
+use wire::join4;
 
 // What an accepted sheet's header says, and how many fields it has, the end with them.
 pub struct Day {
@@ -47,15 +64,98 @@ fn at_end(len: usize, next: usize, p: Progress) -> Judged
     Judged::Refused(number::PLACE, next)
 }
 
-// Judges a sheet: its length, then field after field.
-pub fn judge_sheet(sheet: &[u8]) -> Judged
+// A place in a sheet, and what is kept of the fields before it.
+struct Reached {
+    at: usize,
+    progress: Progress,
+}
+
+// The number of the four bytes behind a head: a record's time, or an end's count.
+fn number_behind(sheet: &[u8], at: usize) -> u32
+    requires { ⌜ at + 7 ≤ length (now sheet) ⌝ }
+    ensures { λ r. ⌜ r ≡ be4At (now (sheet .entry)) (at + 3) ⌝ }
+{
+    let start = at + 3;
+    join4(
+        sheet[start],
+        sheet[start + 1],
+        sheet[start + 2],
+        sheet[start + 3],
+    )
+}
+
+// What is kept behind the header at the sheet's start.
+fn header_kept(sheet: &[u8]) -> Progress
+    requires { ⌜ 6 ≤ length (now sheet) ⌝ }
+    ensures { λ r. ⌜ r ≡ afterHeader start (getD (now (sheet .entry)) 3 0) (be2At (now (sheet .entry)) 4) ⌝ }
+{
+    after_header(begin(), sheet[3], join2(sheet[4], sheet[5]))
+}
+
+// How many bytes a trade or a quote that stands at a place has, right but for its time; 0 where none does.
+fn record_size(sheet: &[u8], at: usize) -> usize
+    ensures { λ r. ⌜ r ≡ recordSize (now (sheet .entry)) at ⌝ }
+{
+    if right_trade(sheet, at) {
+        return 14;
+    }
+    if right_quote(sheet, at) {
+        return 17;
+    }
+    0
+}
+
+// Behind the right trades and quotes that stand one after the other. A time is held to the time before it alone: times never fall, so all lie in the
+// day where the last one does.
+fn past_records(sheet: &[u8], from: usize, before: Progress) -> Reached
+    requires { ⌜ Nearly (now sheet) from before ⌝ }
+    ensures { λ r. ⌜ Nearly (now (sheet .entry)) (r .at) (r .progress) ⌝ }
+{
+    let mut at = from;
+    let mut progress = before;
+    loop {
+        let size = record_size(sheet, at);
+        if size == 0 {
+            return Reached { at, progress };
+        }
+        let time = number_behind(sheet, at);
+        if time < progress.time {
+            return Reached { at, progress };
+        }
+        progress = after_record(progress, time);
+        at = at + size;
+    }
+}
+
+// Behind the right previous closes that stand one after the other.
+fn past_closes(sheet: &[u8], from: usize, before: Progress) -> Reached
+    requires { ⌜ Opened (now sheet) from before ⌝ }
+    ensures { λ r. ⌜ Opened (now (sheet .entry)) (r .at) (r .progress) ⌝ }
+{
+    let mut at = from;
+    let mut progress = before;
+    loop {
+        if right_previous(sheet, at) {
+            let instrument = sheet[at + 3];
+            if previous_placed(progress, instrument) {
+                progress = after_previous(progress, instrument);
+                at = at + 8;
+            } else {
+                return Reached { at, progress };
+            }
+        } else {
+            return Reached { at, progress };
+        }
+    }
+}
+
+// Judges field after field from a place on: whatever may stand there.
+fn judge_from(sheet: &[u8], from: usize, before: Progress) -> Judged
+    requires { ⌜ OnTrack (now sheet) from before ⌝ }
     ensures { λ r. ⌜ judgedSays r ≡ judgeSheet (now (sheet .entry)) ⌝ }
 {
-    if 1_048_576 < sheet.len() {
-        return Judged::Refused(number::LONG, 0);
-    }
-    let mut at = 0;
-    let mut progress = begin();
+    let mut at = from;
+    let mut progress = before;
     loop {
         match shape_at(sheet, at) {
             Read::Refused(found, _) => {
@@ -75,4 +175,47 @@ pub fn judge_sheet(sheet: &[u8]) -> Judged
             },
         }
     }
+}
+
+// Judges what stands behind the records: most often the right end.
+fn judge_end(sheet: &[u8], at: usize, progress: Progress) -> Judged
+    requires { ⌜ OnTrack (now sheet) at progress × (1 ≤ progress .stage) ⌝ }
+    ensures { λ r. ⌜ judgedSays r ≡ judgeSheet (now (sheet .entry)) ⌝ }
+{
+    if stands(sheet, at, layout::END) {
+        let count = number_behind(sheet, at);
+        if count == progress.count {
+            return at_end(sheet.len(), at + 7, progress);
+        }
+    }
+    judge_from(sheet, at, progress)
+}
+
+// Judges what stands behind a right header: goes past the right closes and records, and leaves what comes then, or all records where a time is no
+// time of the day, to the judge of any field.
+fn judge_behind(sheet: &[u8], header: Progress) -> Judged
+    requires { ⌜ Opened (now sheet) 6 header ⌝ }
+    ensures { λ r. ⌜ judgedSays r ≡ judgeSheet (now (sheet .entry)) ⌝ }
+{
+    let closes = past_closes(sheet, 6, header);
+    let opened = closes.progress;
+    let records = past_records(sheet, closes.at, opened);
+    let last = records.progress;
+    if 86_399_999 < last.time {
+        return judge_from(sheet, closes.at, opened);
+    }
+    judge_end(sheet, records.at, last)
+}
+
+// Judges a sheet: its length, then its fields.
+pub fn judge_sheet(sheet: &[u8]) -> Judged
+    ensures { λ r. ⌜ judgedSays r ≡ judgeSheet (now (sheet .entry)) ⌝ }
+{
+    if 1_048_576 < sheet.len() {
+        return Judged::Refused(number::LONG, 0);
+    }
+    if right_header(sheet, 0) {
+        return judge_behind(sheet, header_kept(sheet));
+    }
+    judge_from(sheet, 0, begin())
 }

@@ -1,46 +1,46 @@
 -- `reader::read_field` meets its contract. Assumes nothing.
-use Rattle.field.specs.Laws.{read-judged, read-refused}
-use Rattle.field.specs.Said.{readSays}
-use mathlib.Core.Path.{sym, ap, _∙_}
+use Rattle.reader.specs.Heads.{too-short, heads}
 use borrow.Author.Needs.{needs}
 use Rattle.reader.proofs.read_field.Statement.{statement}
 use Rattle.reader.proofs.read_field.Tie as tie
 
-shape-at-requires : tie.Need-shape-at-requires
-shape-at-requires c κs = search needs
-
-enum-known-field : tie.Need-enum-known-field
-enum-known-field c = search needs
-
-judge-requires : tie.Need-judge-requires
-judge-requires c κs = search needs
-
-settle-requires : tie.Need-settle-requires
-settle-requires c κs = search needs
-
-enum-known-found : tie.Need-enum-known-found
-enum-known-found c = search needs
+remaining-requires : tie.Need-remaining-requires
+remaining-requires c κs = search needs
 
 returns : tie.Need-returns
-returns c =
-    let judging = c .before in
-    let took = judging .before .before in
-    let shape = sym (took .before .before .shape-at .ensures) ∙ ap readSays (took .field .given .1) in
-    c .settle .ensures ∙ rw (judging .judge .ensures) (sym (read-judged _ _ _ _ shape))
+returns c = search (too-short, needs)
+
+add-length : tie.Need-add-length
+add-length c = search needs
+
+shared-slice-read-join2 : tie.Need-shared-slice-read-join2
+shared-slice-read-join2 c = search needs
+
+add-join2 : tie.Need-add-join2
+add-join2 c = search needs
+
+shared-slice-read-join2-2 : tie.Need-shared-slice-read-join2-2
+shared-slice-read-join2-2 c = search needs
+
+join2-requires : tie.Need-join2-requires
+join2-requires c κs = search needs
+
+tagged-at-requires : tie.Need-tagged-at-requires
+tagged-at-requires c κs = search (heads, needs)
 
 returns-2 : tie.Need-returns-2
-returns-2 c =
-    let took = c .before in
-    sym (read-refused _ _ _ _ (sym (took .before .before .shape-at .ensures) ∙ ap readSays (took .found .given .1)))
+returns-2 c = search needs
 
 pub read-field-spec : {M : Type 1} → statement M
 read-field-spec =
     tie.close
     (tie.spec
-    shape-at-requires
-    enum-known-field
-    judge-requires
-    settle-requires
-    enum-known-found
+    remaining-requires
     returns
+    add-length
+    shared-slice-read-join2
+    add-join2
+    shared-slice-read-join2-2
+    join2-requires
+    tagged-at-requires
     returns-2)

@@ -1,85 +1,43 @@
--- `sheet::judge_sheet` meets its contract: each need is a law of the loop, whose premises `search` finds. Assumes nothing.
+-- `sheet::judge_sheet` meets its contract. Assumes nothing.
 use borrow.Author.Needs.{needs}
-use Rattle.sheet.specs.Walk.{left, less-read}
-use Rattle.sheet.proofs.Track.{OnTrack, too-long, at-start, at-refusal, at-room, at-stop, at-last, at-next}
+use Rattle.sheet.specs.Track.{too-long, at-start}
+use Rattle.sheet.specs.Past.{header-inside, opened}
 use Rattle.sheet.proofs.judge_sheet.Statement.{statement}
 use Rattle.sheet.proofs.judge_sheet.Tie as tie
 
-ruleset judging = (too-long, at-start, at-refusal, at-room, at-stop, at-last, at-next, less-read, needs)
+returns : tie.Need-returns
+returns c = search (too-long, needs)
 
-abbrev Inv-loop : tie.InvT-loop
-Inv-loop sheet at₀ progress₀ at progress = OnTrack sheet at progress
+right-header-requires : tie.Need-right-header-requires
+right-header-requires c κs = search needs
 
-abbrev μ-loop : tie.MeasureT-loop
-μ-loop sheet at₀ progress₀ at progress = left sheet at
+header-kept-requires : tie.Need-header-kept-requires
+header-kept-requires c κs = search (header-inside, needs)
 
-returns : tie.Need-returns Inv-loop μ-loop
-returns c = search judging
+judge-behind-requires : tie.Need-judge-behind-requires
+judge-behind-requires c κs = search (opened, needs)
 
-begin-requires : tie.Need-begin-requires Inv-loop μ-loop
-begin-requires c κs = search judging
+returns-2 : tie.Need-returns-2
+returns-2 c = search needs
 
-loop-holds : tie.Need-loop-holds Inv-loop μ-loop
-loop-holds c = search judging
+begin-requires : tie.Need-begin-requires
+begin-requires c κs = search needs
 
-shape-at-requires : tie.Need-shape-at-requires Inv-loop μ-loop
-shape-at-requires c κs = search judging
+judge-from-requires : tie.Need-judge-from-requires
+judge-from-requires c κs = search (at-start, needs)
 
-enum-known-found : tie.Need-enum-known-found Inv-loop μ-loop
-enum-known-found c = search judging
-
-returns-2 : tie.Need-returns-2 Inv-loop μ-loop
-returns-2 c = search judging
-
-enum-known-field : tie.Need-enum-known-field Inv-loop μ-loop
-enum-known-field c = search judging
-
-admit-requires : tie.Need-admit-requires Inv-loop μ-loop
-admit-requires c κs = search judging
-
-enum-known-found-2 : tie.Need-enum-known-found-2 Inv-loop μ-loop
-enum-known-found-2 c = search judging
-
-returns-3 : tie.Need-returns-3 Inv-loop μ-loop
-returns-3 c = search judging
-
-enum-told : tie.Need-enum-told Inv-loop μ-loop
-enum-told c = search judging
-
-at-end-requires : tie.Need-at-end-requires Inv-loop μ-loop
-at-end-requires c κs = search judging
-
-returns-4 : tie.Need-returns-4 Inv-loop μ-loop
-returns-4 c = search judging
-
-enum-known-after : tie.Need-enum-known-after Inv-loop μ-loop
-enum-known-after c = search judging
-
-loop-less : tie.Need-loop-less Inv-loop μ-loop
-loop-less c = search judging
-
-loop-again : tie.Need-loop-again Inv-loop μ-loop
-loop-again c = search judging
+returns-3 : tie.Need-returns-3
+returns-3 c = search needs
 
 pub judge-sheet-spec : {M : Type 1} → statement M
 judge-sheet-spec =
     tie.close
     (tie.spec
-    Inv-loop
-    μ-loop
     returns
-    begin-requires
-    loop-holds
-    shape-at-requires
-    enum-known-found
+    right-header-requires
+    header-kept-requires
+    judge-behind-requires
     returns-2
-    enum-known-field
-    admit-requires
-    enum-known-found-2
-    returns-3
-    enum-told
-    at-end-requires
-    returns-4
-    enum-known-after
-    loop-less
-    loop-again)
+    begin-requires
+    judge-from-requires
+    returns-3)

@@ -7,11 +7,8 @@ use Rattle.field.proofs.judge.judge.Tie as tie
 enum-known-field : tie.Need-enum-known-field
 enum-known-field c = search needs
 
-header-right-requires : tie.Need-header-right-requires
-header-right-requires c κs = search needs
-
-unless-requires : tie.Need-unless-requires
-unless-requires c κs = search needs
+judge-header-requires : tie.Need-judge-header-requires
+judge-header-requires c κs = search needs
 
 enum-known-field-2 : tie.Need-enum-known-field-2
 enum-known-field-2 c = search needs
@@ -36,7 +33,7 @@ enum-told c = search needs
 
 returns : tie.Need-returns
 unfolding judge
-returns c = simp (c .unless .ensures, c .before .header-right .ensures, c .before .before .before .field .given .1)
+returns c = simp (c .judge-header .ensures, c .before .before .field .given .1)
 
 returns-2 : tie.Need-returns-2
 unfolding judge
@@ -57,8 +54,7 @@ judge-spec =
     tie.close
     (tie.spec
     enum-known-field
-    header-right-requires
-    unless-requires
+    judge-header-requires
     enum-known-field-2
     judge-previous-requires
     enum-known-field-3

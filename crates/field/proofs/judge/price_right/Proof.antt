@@ -1,21 +1,37 @@
--- `field::judge::price_right` meets its contract. Assumes nothing.
+-- `field::judge::price_right` meets its contract: the ends are the instrument's. Assumes nothing.
 use mathlib.Core.Path.{_∙_}
+use Rattle.field.specs.Ends.{price-ends}
 use borrow.Author.Needs.{needs}
 use Rattle.field.proofs.judge.price_right.Statement.{statement}
 use Rattle.field.proofs.judge.price_right.Tie as tie
 
-cents-within-requires : tie.Need-cents-within-requires
-cents-within-requires c κs = search needs
+lowest-requires : tie.Need-lowest-requires
+lowest-requires c κs = search needs
 
-cents-within-requires-2 : tie.Need-cents-within-requires-2
-cents-within-requires-2 c κs = search needs
+at-most-requires : tie.Need-at-most-requires
+at-most-requires c κs = search needs
 
-pick-requires : tie.Need-pick-requires
-pick-requires c κs = search needs
+highest-requires : tie.Need-highest-requires
+highest-requires c κs = search needs
+
+at-most-requires-2 : tie.Need-at-most-requires-2
+at-most-requires-2 c κs = search needs
+
+both-requires : tie.Need-both-requires
+both-requires c κs = search needs
 
 returns : tie.Need-returns
-returns c = c .pick .ensures ∙ rw (c .before .cents-within2 .ensures, c .before .before .cents-within .ensures)
+returns c =
+    c .both .ensures
+    ∙ rw (c .before .at-most2 .ensures, c .before .before .highest .ensures, c .before .before .before .at-most .ensures, c .before .before .before .before .lowest .ensures) (price-ends _ _)
 
 pub price-right-spec : {M : Type 1} → statement M
 price-right-spec =
-    tie.close (tie.spec cents-within-requires cents-within-requires-2 pick-requires returns)
+    tie.close
+    (tie.spec
+    lowest-requires
+    at-most-requires
+    highest-requires
+    at-most-requires-2
+    both-requires
+    returns)

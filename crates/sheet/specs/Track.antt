@@ -1,5 +1,8 @@
--- Laws of the judge's loop: what one read and one admission say of the judgement from a place on. The premises are the facts as they stand in
--- the code: what a call ensures of its result, and the case that the result was found to be. Assumes nothing.
+-- Laws of judging a sheet field after field: what one field and its admission say of the judgement from a place on.
+--     OnTrack    judging from here on says what judging the whole sheet says
+--     on-..      where a field stands
+--     at-..      the same with the facts as they stand in the code: what a call ensures of its result, and the case that the result was found to be
+-- Assumes nothing.
 use Prim.Native.Nat.{ℕ, _+_, _<_, _≤_}
 use mathlib.Core.Path.{_≡_, refl, sym, _∙_, ap}
 use mathlib.Core.List.{List}
@@ -9,18 +12,17 @@ use lib.ListN.{length}
 use Rattle.field.specs.declared.Field.{Field}
 use Rattle.field.specs.declared.Read.{Read}
 use Rattle.field.specs.declared.Read.the-variants as R
-use Rattle.field.specs.Said.{readSays}
+use Rattle.field.specs.Said.{gives, readSays}
 use Rattle.field.specs.Reading.{shapeAt}
 use Rattle.admit.specs.declared.Progress.{Progress}
 use Rattle.admit.specs.declared.Admitted.{Admitted}
 use Rattle.admit.specs.declared.Admitted.the-variants as A
-use Rattle.admit.specs.Admitting.{start, Step, admit, admitSays}
+use Rattle.admit.specs.Admitting.{start, Step, goes, ends, stops, admit, admitSays}
 use Rattle.admit.specs.Laws.{went-counts}
 use Rattle.sheet.specs.Fields.{readsAt}
 use Rattle.sheet.specs.Judgement.{Verdict, refuses-at, atEnd, after, judgeReads, judgeSheet}
 use Rattle.sheet.specs.Walk.{shape-grows, reads-gave, reads-stop, read-gave, read-stopped, less-read}
 
--- the loop's invariant: judging from here on says what judging the whole sheet says
 pub record OnTrack (s : List ℕ) (at : ℕ) (p : Progress) : Type 0 where
   pub small : length s ≤ 1048576
   pub within : at ≤ length s
@@ -35,6 +37,32 @@ pub at-start : (s : List ℕ) {p : Progress} → p ≡ start → length s ≤ 10
 unfolding judgeSheet
 at-start s {p} e h = rw e (record { small = h; within = omega arith; counts = omega arith; same = simp (le-leb (length s) 1048576 h) })
 
+-- ---- where a field stands
+
+module _ (s : List ℕ) (at : ℕ) (p : Progress) (o : OnTrack s at p) {f : Field} {next : ℕ} (shape : shapeAt s at ≡ gives f next) where
+  pub on-room : p .count < 1048576
+  on-room = omega (arith, shape-grows s at shape, o .small, o .counts)
+
+  judged : {x : Step} → admit p f ≡ x → after (length s) at next p x (λ q. judgeReads (length s) next q (readsAt s next)) ≡ judgeSheet s
+  unfolding judgeReads
+  judged h = rw (reads-gave s at shape, h) at (o .same)
+
+  pub on-stop : {number : ℕ} → admit p f ≡ stops number → refuses-at number at ≡ judgeSheet s
+  unfolding after
+  on-stop h = judged h
+
+  pub on-last : {x : Verdict} → admit p f ≡ ends → x ≡ atEnd (length s) next p → x ≡ judgeSheet s
+  unfolding after
+  on-last h z = z ∙ judged h
+
+  pub on-next : {q : Progress} → admit p f ≡ goes q → OnTrack s next q
+  unfolding after
+  on-next {q} h =
+      let g = shape-grows s at shape in
+      record { small = o .small; within = g .1; counts = omega (arith, went-counts p f q h, o .counts, g .0); same = judged h }
+
+-- ---- as the judge of any field finds it
+
 module _ (s : List ℕ) (at : ℕ) (p : Progress) (o : OnTrack s at p) {r : Read} (e : readSays r ≡ shapeAt s at) where
   pub at-refusal : {number place : ℕ} → r ≡ R.Refused number place → refuses-at number at ≡ judgeSheet s
   unfolding judgeReads
@@ -42,24 +70,14 @@ module _ (s : List ℕ) (at : ℕ) (p : Progress) (o : OnTrack s at p) {r : Read
 
   module _ {f : Field} {next : ℕ} (d : r ≡ R.Field f next) where
     pub at-room : p .count < 1048576
-    at-room = omega (arith, shape-grows s at (read-gave s at e d))
-
-    judged : {x : Step} → admit p f ≡ x → after (length s) at next p x (λ q. judgeReads (length s) next q (readsAt s next)) ≡ judgeSheet s
-    unfolding judgeReads
-    judged h = rw (reads-gave s at (read-gave s at e d), h) at (o .same)
+    at-room = on-room s at p o (read-gave s at e d)
 
     module _ {t : Admitted} (k : admitSays t ≡ admit p f) where
       pub at-stop : {number : ℕ} → t ≡ A.Refused number → refuses-at number at ≡ judgeSheet s
-      unfolding after
-      at-stop w = judged (sym k ∙ ap admitSays w)
+      at-stop w = on-stop s at p o (read-gave s at e d) (sym k ∙ ap admitSays w)
 
       pub at-last : {x : Verdict} → t ≡ A.Ended → x ≡ atEnd (length s) next p → x ≡ judgeSheet s
-      unfolding after
-      at-last w z = z ∙ judged (sym k ∙ ap admitSays w)
+      at-last w z = on-last s at p o (read-gave s at e d) (sym k ∙ ap admitSays w) z
 
       pub at-next : {q : Progress} → t ≡ A.Next q → OnTrack s next q
-      unfolding after
-      at-next {q} w =
-          let g = shape-grows s at (read-gave s at e d) in
-          let h = sym k ∙ ap admitSays w in
-          record { small = o .small; within = g .1; counts = omega (arith, went-counts p f q h); same = judged h }
+      at-next w = on-next s at p o (read-gave s at e d) (sym k ∙ ap admitSays w)
