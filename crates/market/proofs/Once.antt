@@ -6,6 +6,8 @@ use Rattle.market.proofs.contract_of.Reads as contract-of
 use Rattle.market.proofs.contract_of.Kinds as contract-ofK
 use Rattle.market.proofs.leg_of.Reads as leg-of
 use Rattle.market.proofs.leg_of.Kinds as leg-ofK
+use Rattle.market.proofs.start_in.Reads as start-in
+use Rattle.market.proofs.start_in.Kinds as start-inK
 use Rattle.market.proofs.start_of.Reads as start-of
 use Rattle.market.proofs.start_of.Kinds as start-ofK
 use Rattle.market.proofs.step_of.Reads as step-of
@@ -23,6 +25,9 @@ contract-of-once κs a x y s t p q = once p q
 
 pub leg-of-once : Once 0 leg-ofK.ps leg-ofK.r leg-of.Post (λ κs x s. x)
 leg-of-once κs a x y s t p q = once p q
+
+pub start-in-once : Once 0 start-inK.ps start-inK.r start-in.Post (λ κs x s. x)
+start-in-once κs a x y s t p q = once p q
 
 pub start-of-once : Once 0 start-ofK.ps start-ofK.r start-of.Post (λ κs x s. x)
 start-of-once κs a x y s t p q = once p q

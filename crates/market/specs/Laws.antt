@@ -2,7 +2,7 @@
 -- Assumes nothing.
 use Prim.Native.Nat.{ℕ, zero, suc, _+_, _-_, _/_, _%_, _^_, _≤_, _<_}
 use mathlib.Core.Path.{_≡_, refl, sym, ap, _∙_}
-use mathlib.Core.Bool.{Bool, true, false}
+use mathlib.Core.Bool.{Bool, true, false, cond}
 use mathlib.Core.List.{[]}
 use native.Mathlib.Nat.{div-eq-of-lt, pow-le-pow-right, lt-of-lt-of-le}
 use native.Mathlib.Decide.{decLt}
@@ -13,7 +13,7 @@ use lib.ListN.{getD, List·getD-eq-default}
 use Rattle.market.specs.declared.Metal.{Metal}
 use Rattle.market.specs.declared.Contract.{Contract}
 use Rattle.market.specs.declared.Leg.the-variants.{Outright}
-use Rattle.market.specs.Market.{metals, metalBy, metalOf, contracts, contractBy, contractOf, instruments, rowLeg, legOf, stepOf, windowLength, window-length, inWindow, marked}
+use Rattle.market.specs.Market.{metals, metalBy, metalOf, contracts, contractBy, contractOf, instruments, rowLeg, legOf, startOf, stepOf, windowLength, window-length, inWindow, marked}
 
 -- a metal's row as the code counts, and a metal with no row
 pub metal-row : (m : ℕ) → 0 < m → metalBy (getD metals (m - 1) []) ≡ metalOf m
@@ -31,6 +31,14 @@ contract-none c h = sym (ap contractBy (List·getD-eq-default contracts [] h))
 pub leg-none : (i : ℕ) → 12 ≤ i → Outright ≡ legOf i
 unfolding legOf
 leg-none i h = sym (ap rowLeg (List·getD-eq-default instruments [] h))
+
+-- an instrument's start by the row of its metal
+unfoldable pub startIn : Metal → ℕ → ℕ
+startIn row i = cond (eqb i 0) (row .anchor) (row .spread)
+
+pub start-in : (metal i : ℕ) → startIn (metalOf metal) i ≡ startOf metal i
+unfolding startIn startOf
+start-in metal i = refl
 
 -- a contract's step: 0 in its row, and another
 pub step-by-metal : (metal c : ℕ) (row : Contract) (m : Metal) → row ≡ contractOf c → m ≡ metalOf metal → row .step ≡ 0 → m .step ≡ stepOf metal c

@@ -1,6 +1,7 @@
 // Document 01's constant tables by metal, by contract and by instrument, the windows and the marks. Hosts don't call it.
 ghost use mathlib.Core.Path.{_≡_};
 ghost use Rattle.market.specs.Market.{metalOf, contractOf, legOf, startOf, stepOf, inWindow, marked};
+ghost use Rattle.market.specs.Laws.{startIn};
 
 // A metal's spread start and anchor start, in milliseconds of the day, and its 3M step, in cents.
 pub struct Metal {
@@ -137,16 +138,23 @@ pub fn leg_of(instrument: u8) -> Leg
     Leg::Outright
 }
 
-// The start of an instrument's window: the anchor window for instrument 0, the spread window for all others; 0 where there is no such metal.
-pub fn start_of(metal: u8, instrument: u8) -> u32
-    ensures { λ r. ⌜ r ≡ startOf metal instrument ⌝ }
+// The start of an instrument's window by its metal's row, for who has looked that up: the anchor window for instrument 0, the spread window for all
+// others.
+pub fn start_in(row: Metal, instrument: u8) -> u32
+    ensures { λ r. ⌜ r ≡ startIn row instrument ⌝ }
 {
-    let row = metal_of(metal);
     if instrument == 0 {
         row.anchor
     } else {
         row.spread
     }
+}
+
+// The same by the metal; 0 where there is no such metal.
+pub fn start_of(metal: u8, instrument: u8) -> u32
+    ensures { λ r. ⌜ r ≡ startOf metal instrument ⌝ }
+{
+    start_in(metal_of(metal), instrument)
 }
 
 // The step that a contract rounds to: 3M's by the metal, every other contract's 1 cent; a contract above 5 has the metal's.

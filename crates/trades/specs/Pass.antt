@@ -22,7 +22,9 @@ use Rattle.field.specs.Said.{gives}
 use Rattle.field.specs.Reading.{bodyAt, shapeAt}
 use Rattle.field.specs.Laws.{clash, Headed, Shaped, shaped}
 use Rattle.field.specs.Sound.{Sound}
-use Rattle.market.specs.Market.{startOf, inWindow}
+use Rattle.market.specs.declared.Metal.{Metal}
+use Rattle.market.specs.Market.{metalOf, startOf, inWindow}
+use Rattle.market.specs.Laws.{startIn}
 use Rattle.sheet.specs.declared.Day.{Day}
 use Rattle.sheet.specs.declared.Judged.{Judged}
 use Rattle.sheet.specs.declared.Judged.the-variants as J
@@ -42,13 +44,13 @@ use Rattle.trades.specs.Laws.{Small, same-total, join-none, total-append
 abbrev pub withTrade : Total → Price → ℕ → Total
 withTrade t price lots = record { lots = t .lots + lots; value = t .value +ℤ pos lots *ℤ price .cents }
 
--- a trade counts inside its instrument's window, and no other field does
-unfoldable pub countedOf : ℕ → Field → Counted
-countedOf metal (Header m marks) = C.Nothing
-countedOf metal (PreviousClose instrument price) = C.Nothing
-countedOf metal (Trade time instrument price lots) = cond (inWindow (startOf metal instrument) time) (C.Trade instrument price lots) C.Nothing
-countedOf metal (Quote time instrument sides bid offer) = C.Nothing
-countedOf metal (End count) = C.Nothing
+-- a trade counts inside its instrument's window, by the row of the metal, and no other field does
+unfoldable pub countedIn : Metal → Field → Counted
+countedIn row (Header m marks) = C.Nothing
+countedIn row (PreviousClose instrument price) = C.Nothing
+countedIn row (Trade time instrument price lots) = cond (inWindow (startIn row instrument) time) (C.Trade instrument price lots) C.Nothing
+countedIn row (Quote time instrument sides bid offer) = C.Nothing
+countedIn row (End count) = C.Nothing
 
 -- a trade that counts is added to its instrument's total
 unfoldable pub addCounted : List Total → Counted → List Total
@@ -56,7 +58,7 @@ addCounted ts C.Nothing = ts
 addCounted ts (C.Trade instrument price lots) = set ts instrument (withTrade (getD ts instrument none) price lots)
 
 abbrev pub addField : ℕ → List Total → Field → List Total
-addField metal ts f = addCounted ts (countedOf metal f)
+addField metal ts f = addCounted ts (countedIn (metalOf metal) f)
 
 -- ---- the pass goes on as the totals do
 
@@ -118,7 +120,7 @@ module _ (metal : ℕ) (fs : List Field) where
         by-test false e = trade-other metal i time instrument price lots (eqb-false instrument i e)
 
     totals-trade : totalsOf metal (fs ++ (trade ∷ [])) ≡ addField metal (totalsOf metal fs) trade
-    unfolding countedOf addCounted
+    unfolding countedIn startIn startOf addCounted
     totals-trade = by-test (inWindow (startOf metal instrument) time) refl
       where
         by-test : (b : Bool) → inWindow (startOf metal instrument) time ≡ b → totalsOf metal (fs ++ (trade ∷ [])) ≡ addCounted (totalsOf metal fs) (cond b (C.Trade instrument price lots) C.Nothing)
@@ -127,7 +129,7 @@ module _ (metal : ℕ) (fs : List Field) where
 
 -- one field more, whatever it is
 pub totals-step : (metal : ℕ) (fs : List Field) (f : Field) → totalsOf metal (fs ++ (f ∷ [])) ≡ addField metal (totalsOf metal fs) f
-unfolding countedOf addCounted tradeIn
+unfolding countedIn addCounted tradeIn
 totals-step metal fs (Header m marks) = totals-same metal fs (Header m marks) (λ i. refl)
 totals-step metal fs (PreviousClose instrument price) = totals-same metal fs (PreviousClose instrument price) (λ i. refl)
 totals-step metal fs (Trade time instrument price lots) = totals-trade metal fs time instrument price lots
@@ -137,37 +139,37 @@ totals-step metal fs (End count) = totals-same metal fs (End count) (λ i. refl)
 -- ---- at the places of the code
 
 -- a trade inside the window and outside it, as the code tests it
-module _ (metal : ℕ) {f : Field} {time instrument : ℕ} {price : Price} {lots : ℕ} (d : f ≡ Trade time instrument price lots) {start : ℕ} {b : Bool} (e : start ≡ startOf metal instrument) (w : b ≡ inWindow start time) where
-  tested : inWindow (startOf metal instrument) time ≡ b
+module _ (row : Metal) {f : Field} {time instrument : ℕ} {price : Price} {lots : ℕ} (d : f ≡ Trade time instrument price lots) {start : ℕ} {b : Bool} (e : start ≡ startIn row instrument) (w : b ≡ inWindow start time) where
+  tested : inWindow (startIn row instrument) time ≡ b
   tested = ap (λ (s : ℕ). inWindow s time) (sym e) ∙ sym w
 
-  pub counted-in : b ≡ true → C.Trade instrument price lots ≡ countedOf metal f
-  unfolding countedOf
+  pub counted-in : b ≡ true → C.Trade instrument price lots ≡ countedIn row f
+  unfolding countedIn
   counted-in h = sym (rw (d, tested, h) refl)
 
-  pub counted-out : b ≡ false → C.Nothing ≡ countedOf metal f
-  unfolding countedOf
+  pub counted-out : b ≡ false → C.Nothing ≡ countedIn row f
+  unfolding countedIn
   counted-out h = sym (rw (d, tested, h) refl)
 
 -- a field that is no trade
-pub counted-by : (metal : ℕ) {f g : Field} → f ≡ g → countedOf metal g ≡ countedOf metal f
-counted-by metal e = sym (ap (countedOf metal) e)
+pub counted-by : (row : Metal) {f g : Field} → f ≡ g → countedIn row g ≡ countedIn row f
+counted-by row e = sym (ap (countedIn row) e)
 
 -- a trade that counts is on an instrument, where the field's values are in their ranges
-on-by : (metal : ℕ) (f : Field) (instrument : ℕ) (price : Price) (lots : ℕ) → countedOf metal f ≡ C.Trade instrument price lots → Sound 0 f → instrument < 12
-unfolding countedOf
-on-by metal (Header m marks) instrument price lots e h = clash cc
-on-by metal (PreviousClose i p) instrument price lots e h = clash cc
-on-by metal (Trade time i p l) instrument price lots e h = by-test (inWindow (startOf metal i) time) e
+on-by : (row : Metal) (f : Field) (instrument : ℕ) (price : Price) (lots : ℕ) → countedIn row f ≡ C.Trade instrument price lots → Sound 0 f → instrument < 12
+unfolding countedIn
+on-by row (Header m marks) instrument price lots e h = clash cc
+on-by row (PreviousClose i p) instrument price lots e h = clash cc
+on-by row (Trade time i p l) instrument price lots e h = by-test (inWindow (startIn row i) time) e
   where
     by-test : (b : Bool) → cond b (C.Trade i p l) C.Nothing ≡ C.Trade instrument price lots → instrument < 12
     by-test true g = let same : i ≡ instrument = cc in omega (arith, h .stamp .instrument-in)
     by-test false g = clash cc
-on-by metal (Quote time i sides bid offer) instrument price lots e h = clash cc
-on-by metal (End count) instrument price lots e h = clash cc
+on-by row (Quote time i sides bid offer) instrument price lots e h = clash cc
+on-by row (End count) instrument price lots e h = clash cc
 
-pub counted-on : (metal : ℕ) (f : Field) {r : Counted} {instrument : ℕ} {price : Price} {lots : ℕ} → r ≡ countedOf metal f → r ≡ C.Trade instrument price lots → Sound 0 f → instrument < 12
-counted-on metal f {r} {instrument} {price} {lots} e d h = on-by metal f instrument price lots (sym e ∙ d) h
+pub counted-on : (row : Metal) (f : Field) {r : Counted} {instrument : ℕ} {price : Price} {lots : ℕ} → r ≡ countedIn row f → r ≡ C.Trade instrument price lots → Sound 0 f → instrument < 12
+counted-on row f {r} {instrument} {price} {lots} e d h = on-by row f instrument price lots (sym e ∙ d) h
 
 -- ---- the pass over a sheet that fields fill
 
@@ -199,6 +201,13 @@ here-at s at end fs (then {next = next} {f = f} {fs = more} d t) e g l =
   where
     tail-same : {a b : Field} {xs ys : List Field} → a ∷ xs ≡ b ∷ ys → xs ≡ ys
     tail-same h = cc
+
+-- the bytes of a trade and of a quote
+pub size-three : {tag : ℕ} → tag ≡ 3 → 14 ≡ sizeOf tag
+size-three e = rw e refl
+
+pub size-four : {tag : ℕ} → tag ≡ 4 → 17 ≡ sizeOf tag
+size-four e = rw e refl
 
 module _ (metal : ℕ) (s : List ℕ) (at : ℕ) (ts : List Total) (o : Passing metal s at ts) where
   -- behind the last field
@@ -243,30 +252,30 @@ module _ (metal : ℕ) (s : List ℕ) (at : ℕ) (ts : List Total) (o : Passing 
       pass-sound {f} h e g = subst (Sound 0) (trade-is h e) (sofar-here (totalsOf metal) s at ts (o .sofar) {r = R.Field (place .field) (place .next)} (sym (place .shape)) (Sound 0) (g .sound) refl)
 
       -- behind it, with what it counts
-      on-with : (c : Counted) → c ≡ countedOf metal (place .field) → {n : ℕ} → n ≡ sizeOf tag → Passing metal s (at + n) (addCounted ts c)
+      on-with : (c : Counted) → c ≡ countedIn (metalOf metal) (place .field) → {n : ℕ} → n ≡ sizeOf tag → Passing metal s (at + n) (addCounted ts c)
       on-with c g e = rw (sym (behind e)) (record {
         sofar = sofar-next (totalsOf metal) s at ts (o .sofar) {r = R.Field (place .field) (place .next)} (sym (place .shape)) (addField metal) (totals-step metal) refl (ap (addCounted ts) g);
         stood = place .rest;
       })
 
-      module _ {f : Field} {c : Counted} (three : tag ≡ 3) (d : f ≡ tradeOf (bodyAt s at 3)) (g : c ≡ countedOf metal f) where
-        found : c ≡ countedOf metal (place .field)
-        found = g ∙ ap (countedOf metal) (sym (trade-is three d))
+      module _ {f : Field} {c : Counted} {row : Metal} (three : tag ≡ 3) (d : f ≡ tradeOf (bodyAt s at 3)) (w : row ≡ metalOf metal) (g : c ≡ countedIn row f) where
+        found : c ≡ countedIn (metalOf metal) (place .field)
+        found = g ∙ ap (λ (r : Metal). countedIn r f) w ∙ ap (countedIn (metalOf metal)) (sym (trade-is three d))
 
-        pub pass-trade : {instrument : ℕ} {price : Price} {lots : ℕ} {t : Total} {n : ℕ} → c ≡ C.Trade instrument price lots → t ≡ withTrade (getD ts instrument none) price lots → n ≡ sizeOf tag → Passing metal s (at + n) (set ts instrument t)
+        pub pass-trade : {instrument : ℕ} {price : Price} {lots : ℕ} {t : Total} → c ≡ C.Trade instrument price lots → t ≡ withTrade (getD ts instrument none) price lots → Passing metal s (at + 14) (set ts instrument t)
         unfolding addCounted
-        pass-trade {n = n} h u e = rw u (subst (λ (x : Counted). Passing metal s (at + n) (addCounted ts x)) h (on-with c found e))
+        pass-trade h u = rw u (subst (λ (x : Counted). Passing metal s (at + 14) (addCounted ts x)) h (on-with c found (size-three three)))
 
-        pub pass-nothing : {n : ℕ} → c ≡ C.Nothing → n ≡ sizeOf tag → Passing metal s (at + n) ts
+        pub pass-nothing : c ≡ C.Nothing → Passing metal s (at + 14) ts
         unfolding addCounted
-        pass-nothing {n} h e = subst (λ (x : Counted). Passing metal s (at + n) (addCounted ts x)) h (on-with c found e)
+        pass-nothing h = subst (λ (x : Counted). Passing metal s (at + 14) (addCounted ts x)) h (on-with c found (size-three three))
 
       -- a field under another tag is no trade
       pub pass-other : {n : ℕ} → (tag ≡ 3 → ⊥) → n ≡ sizeOf tag → Passing metal s (at + n) ts
-      unfolding addCounted countedOf
+      unfolding addCounted countedIn
       pass-other h e = on-with C.Nothing (no-trade (place .field) (shape .values)) e
         where
-          no-trade : (f : Field) → fieldOf (getD s at 0) (bodyAt s at (getD s at 0)) ≡ f → C.Nothing ≡ countedOf metal f
+          no-trade : (f : Field) → fieldOf (getD s at 0) (bodyAt s at (getD s at 0)) ≡ f → C.Nothing ≡ countedIn (metalOf metal) f
           no-trade (Header m marks) v = refl
           no-trade (PreviousClose instrument price) v = refl
           no-trade (Trade time instrument price lots) v = absurd (h (k ∙ tag-three (getD s at 0) _ v))

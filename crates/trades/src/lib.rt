@@ -8,13 +8,16 @@ ghost use Rattle.field.specs.Laws.{Headed};
 ghost use Rattle.sheet.specs.Fields.{fieldsOf};
 ghost use Rattle.trades.specs.Trades.{noTrades, totalsOf, Told};
 ghost use Rattle.trades.specs.Laws.{Small, AllSmall};
-ghost use Rattle.trades.specs.Pass.{withTrade, countedOf, Filled};
+ghost use Rattle.trades.specs.Pass.{withTrade, countedIn, Filled};
 use decoder::trade_of;
 use field::Field;
 use field::Price;
+use field::layout;
 use field::layout::size_of;
+use market::Metal;
 use market::in_window;
-use market::start_of;
+use market::metal_of;
+use market::start_in;
 use sheet::Judged;
 use sheet::judge_sheet;
 
@@ -23,9 +26,6 @@ pub struct Total {
     pub lots: u64,
     pub value: i64,
 }
-
-// A trade's tag.
-const TRADE: u8 = 3;
 
 // The judgement of a sheet, and its totals by instrument, 0 to 11.
 pub struct Traded {
@@ -64,9 +64,9 @@ pub enum Counted {
     },
 }
 
-// A trade counts where it lies in its instrument's window; no other field does.
-fn count_field(metal: u8, field: Field) -> Counted
-    ensures { λ r. ⌜ r ≡ countedOf metal field ⌝ }
+// A trade counts where it lies in its instrument's window, by the row of the sheet's metal; no other field does.
+fn count_in(row: Metal, field: Field) -> Counted
+    ensures { λ r. ⌜ r ≡ countedIn row field ⌝ }
 {
     match field {
         Field::Trade {
@@ -75,7 +75,7 @@ fn count_field(metal: u8, field: Field) -> Counted
             price,
             lots,
         } => {
-            if in_window(start_of(metal, instrument), time) {
+            if in_window(start_in(row, instrument), time) {
                 Counted::Trade {
                     instrument,
                     price,
@@ -111,18 +111,19 @@ fn trade_here(sheet: &[u8], at: usize) -> Field
     trade_of(&sheet[start..next])
 }
 
-// The totals of a sheet that fields fill to its end, their values in their ranges: only trades are looked into.
+// The totals of a sheet that fields fill to its end, their values in their ranges: only trades are looked into. The metal's row is looked up once, and
+// the sizes of trades and quotes stand in their branches, so that no place waits for a table.
 fn totals_of(sheet: &[u8], metal: u8) -> [Total; 12]
     requires { ⌜ Filled (now sheet) × (length (now sheet) ≤ 1048576) ⌝ }
     ensures { λ r. ⌜ r ≡ totalsOf metal (fieldsOf (now (sheet .entry))) ⌝ }
 {
+    let row = metal_of(metal);
     let mut totals = no_trades();
     let mut at = 0;
     while at < sheet.len() {
         let tag = sheet[at];
-        let next = at + size_of(tag);
-        if tag == TRADE {
-            match count_field(metal, trade_here(sheet, at)) {
+        if tag == layout::TRADE {
+            match count_in(row, trade_here(sheet, at)) {
                 Counted::Trade {
                     instrument,
                     price,
@@ -130,11 +131,17 @@ fn totals_of(sheet: &[u8], metal: u8) -> [Total; 12]
                 } => {
                     let i = instrument as usize;
                     totals[i] = with_trade(totals[i], price, lots);
+                    at = at + 14;
                 }
-                Counted::Nothing => {}
+                Counted::Nothing => {
+                    at = at + 14;
+                }
             }
+        } else if tag == layout::QUOTE {
+            at = at + 17;
+        } else {
+            at = at + size_of(tag);
         }
-        at = next;
     }
     totals
 }

@@ -1,6 +1,6 @@
 -- `market::start_of` meets its contract. Assumes nothing.
-use borrow.Author.Tests.{eq-eqb, ne-eqb}
-use Rattle.market.specs.Market.{startOf}
+use mathlib.Core.Path.{_∙_}
+use Rattle.market.specs.Laws.{start-in}
 use borrow.Author.Needs.{needs}
 use Rattle.market.proofs.start_of.Statement.{statement}
 use Rattle.market.proofs.start_of.Tie as tie
@@ -8,13 +8,11 @@ use Rattle.market.proofs.start_of.Tie as tie
 metal-of-requires : tie.Need-metal-of-requires
 metal-of-requires c κs = search needs
 
-returns : tie.Need-returns
-unfolding startOf
-returns c = simp (c .before .metal-of .ensures, eq-eqb _ 0 (c .if1 .taken))
+start-in-requires : tie.Need-start-in-requires
+start-in-requires c κs = search needs
 
-returns-2 : tie.Need-returns-2
-unfolding startOf
-returns-2 c = simp (c .before .metal-of .ensures, ne-eqb _ 0 (c .if1 .left))
+returns : tie.Need-returns
+returns c = c .start-in .ensures ∙ rw (c .before .metal-of .ensures) (start-in _ _)
 
 pub start-of-spec : {M : Type 1} → statement M
-start-of-spec = tie.close (tie.spec metal-of-requires returns returns-2)
+start-of-spec = tie.close (tie.spec metal-of-requires start-in-requires returns)
