@@ -1,10 +1,29 @@
-//! Links the archive that `rt staticlib bliskoru` writes.
+//! Links the archive that `rt staticlib bliskoru` writes, and the limit, which is compiled here.
 
 use std::path::Path;
+use std::process::Command;
+
+fn run(program: &str, words: &[&str]) {
+    let status = Command::new(program).args(words).status();
+    assert!(status.is_ok_and(|status| status.success()), "{program} {words:?}");
+}
 
 fn main() {
-    let folder = Path::new(env!("CARGO_MANIFEST_DIR")).join("../target/staticlib");
+    let bench = Path::new(env!("CARGO_MANIFEST_DIR"));
+    let folder = bench.join("../target/staticlib");
     println!("cargo:rustc-link-search=native={}", folder.display());
     println!("cargo:rustc-link-lib=static=bliskoru");
     println!("cargo:rerun-if-changed={}", folder.join("libbliskoru.a").display());
+
+    let out = std::env::var("OUT_DIR").expect("cargo names the folder");
+    let (source, object, archive) =
+        (bench.join("limit.c"), format!("{out}/limit.o"), format!("{out}/liblimit.a"));
+    let source = source.to_str().expect("a path in UTF-8");
+    run("gcc", &["-std=c99", "-O3", "-g1", "-Wall", "-Wextra", "-Werror", "-c", source, "-o", &object]);
+    run("ar", &["rcs", &archive, &object]);
+    println!("cargo:rustc-link-search=native={out}");
+    println!("cargo:rustc-link-lib=static=limit");
+    for name in ["limit.c", "limit.h"] {
+        println!("cargo:rerun-if-changed={}", bench.join(name).display());
+    }
 }

@@ -1,12 +1,16 @@
-//! What the benchmark compares: the proved library and the independent program,
+//! What the benchmark compares: the proved library, the independent program and the limit,
 //! by the same functions over the same sheets.
 //!
-//! * [`library`] the archive's functions
-//! * [`second`]  the independent program's, in the same shapes
-//! * [`sheets`]  the sheets
-//! * [`work`]    the pieces of work, by name, for each side
+//! * [`functions`] the archive's functions and the limit's
+//! * [`second`]    the independent program's, in the same shapes
+//! * [`sheets`]    the sheets that are timed
+//! * [`damaged`]   the sheets that are only compared
+//! * [`same`]      the three sides held to one another
+//! * [`work`]      the pieces of work, by name, for each side
 
-pub mod library;
+pub mod damaged;
+pub mod functions;
+pub mod same;
 pub mod second;
 pub mod sheets;
 pub mod work;

@@ -1,6 +1,6 @@
-//! The independent program's functions, in the shapes of [`crate::library`].
+//! The independent program's functions, in the shapes of [`crate::functions`].
 
-use crate::library::{Rows, Values};
+use crate::functions::{Rows, Values};
 use independent::field::{read_field, Field};
 use independent::pricing::{price_day, price_day_by_spans};
 use independent::{judge_sheet, Answer, Day, Method};

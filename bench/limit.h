@@ -1,0 +1,13 @@
+/* The limit's functions: those of hosts/c/bliskoru.h by other names. */
+#ifndef LIMIT_H
+#define LIMIT_H
+
+#include <stddef.h>
+#include <stdint.h>
+
+uint8_t limit_judge(const uint8_t *sheet, size_t len, size_t *at);
+uint8_t limit_read(const uint8_t *sheet, size_t len, size_t at, int64_t *values, size_t *next);
+uint8_t limit_answers(const uint8_t *sheet, size_t len, uint64_t *answers, size_t *at);
+size_t limit_list(const uint8_t *sheet, size_t len, uint8_t *out, size_t room);
+
+#endif

@@ -1,0 +1,77 @@
+//! The functions of the archive and those of `limit.c`, which have the same shapes, as safe functions over
+//! slices.
+
+/// A field's tag and values, zeros behind them.
+pub type Values = [i64; 6];
+
+/// The six answers, three numbers each.
+pub type Rows = [u64; 18];
+
+/// One side's functions; `hosts/c/bliskoru.h` says what each does.
+pub struct Functions {
+    list: unsafe extern "C" fn(*const u8, usize, *mut u8, usize) -> usize,
+    judge: unsafe extern "C" fn(*const u8, usize, *mut usize) -> u8,
+    answers: unsafe extern "C" fn(*const u8, usize, *mut Rows, *mut usize) -> u8,
+    read: unsafe extern "C" fn(*const u8, usize, usize, *mut Values, *mut usize) -> u8,
+}
+
+extern "C" {
+    fn bliskoru_list(sheet: *const u8, len: usize, out: *mut u8, room: usize) -> usize;
+    fn bliskoru_judge(sheet: *const u8, len: usize, at: *mut usize) -> u8;
+    fn bliskoru_answers(sheet: *const u8, len: usize, rows: *mut Rows, at: *mut usize) -> u8;
+    fn bliskoru_read(sheet: *const u8, len: usize, at: usize, values: *mut Values, next: *mut usize) -> u8;
+
+    fn limit_list(sheet: *const u8, len: usize, out: *mut u8, room: usize) -> usize;
+    fn limit_judge(sheet: *const u8, len: usize, at: *mut usize) -> u8;
+    fn limit_answers(sheet: *const u8, len: usize, rows: *mut Rows, at: *mut usize) -> u8;
+    fn limit_read(sheet: *const u8, len: usize, at: usize, values: *mut Values, next: *mut usize) -> u8;
+}
+
+pub const LIBRARY: Functions =
+    Functions { list: bliskoru_list, judge: bliskoru_judge, answers: bliskoru_answers, read: bliskoru_read };
+
+pub const LIMIT: Functions =
+    Functions { list: limit_list, judge: limit_judge, answers: limit_answers, read: limit_read };
+
+impl Functions {
+    /// The closing list, and its length; 0 where the room is too short.
+    pub fn list(&self, sheet: &[u8], out: &mut [u8]) -> usize {
+        // SAFETY: both pairs are a live slice's pointer and length.
+        unsafe { (self.list)(sheet.as_ptr(), sheet.len(), out.as_mut_ptr(), out.len()) }
+    }
+
+    /// The refusal's number, 0 for none; its byte is left in `at`.
+    pub fn judge_at(&self, sheet: &[u8], at: &mut usize) -> u8 {
+        // SAFETY: the pair is a live slice's; `at` is a live number.
+        unsafe { (self.judge)(sheet.as_ptr(), sheet.len(), at) }
+    }
+
+    /// The same for the six answers, which are left in `rows`.
+    pub fn answers_at(&self, sheet: &[u8], rows: &mut Rows, at: &mut usize) -> u8 {
+        // SAFETY: the pair is a live slice's; `rows` and `at` are live.
+        unsafe { (self.answers)(sheet.as_ptr(), sheet.len(), rows, at) }
+    }
+
+    /// The number that a field earns, 0 for none; its values and the place behind it are left in `values` and
+    /// `next`.
+    pub fn read_at(&self, sheet: &[u8], at: usize, values: &mut Values, next: &mut usize) -> u8 {
+        // SAFETY: the pair is a live slice's; `values` and `next` are live.
+        unsafe { (self.read)(sheet.as_ptr(), sheet.len(), at, values, next) }
+    }
+
+    /// The refusal's number, 0 for none, and its byte.
+    pub fn judge(&self, sheet: &[u8]) -> (u8, usize) {
+        let mut at = 0;
+        let number = self.judge_at(sheet, &mut at);
+        (number, at)
+    }
+
+    /// The six answers, or the refusal's number and byte.
+    pub fn answers(&self, sheet: &[u8]) -> Result<Rows, (u8, usize)> {
+        let (mut rows, mut at) = ([0; 18], 0);
+        match self.answers_at(sheet, &mut rows, &mut at) {
+            0 => Ok(rows),
+            number => Err((number, at)),
+        }
+    }
+}

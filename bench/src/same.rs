@@ -1,0 +1,164 @@
+//! The three sides held to one another over a sheet: judgement, fields, answers and list, and every byte that a
+//! call leaves as it was.
+
+use crate::damaged::visit_all;
+use crate::functions::{Functions, Rows, Values, LIBRARY, LIMIT};
+use crate::second;
+use independent::list::closing_list_by_spans;
+use std::fmt::{self, Debug, Display};
+
+/// What the buffers hold before a call.
+const FILL: u8 = 0xA5;
+const ROOM: usize = 512;
+
+/// Fields are compared in sheets up to this length.
+const LONGEST_READ: usize = 4_096;
+
+/// One accepted sheet in so many is priced by the library too, which walks 300,000 milliseconds for a TWAP.
+const PRICED_BY_LIBRARY: usize = 40;
+
+/// How many sheets were compared.
+#[derive(Default)]
+pub struct Tally {
+    judged: usize,
+    read: usize,
+    priced: usize,
+    priced_by_library: usize,
+}
+
+impl Display for Tally {
+    fn fmt(&self, f: &mut fmt::Formatter) -> fmt::Result {
+        let Tally { judged, read, priced, priced_by_library } = self;
+        write!(f, "{judged} sheets judged by all three, the fields of {read} read by all three; ")?;
+        write!(
+            f,
+            "{priced} accepted and priced by independent and limit, {priced_by_library} by the library too"
+        )
+    }
+}
+
+fn same<T: PartialEq + Debug>(what: &str, side: &str, given: T, wanted: T) -> Result<(), String> {
+    if given == wanted {
+        return Ok(());
+    }
+    Err(format!("{what}: the {side} gives {given:?}, the independent program {wanted:?}"))
+}
+
+const SIDES: [(&str, &Functions); 2] = [("library", &LIBRARY), ("limit", &LIMIT)];
+
+/// The number and what is left in the place, which a good sheet leaves as it was.
+fn judged(side: &Functions, sheet: &[u8]) -> (u8, usize) {
+    let mut at = usize::MAX;
+    let number = side.judge_at(sheet, &mut at);
+    (number, at)
+}
+
+fn look_at_judgement(sheet: &[u8]) -> Result<bool, String> {
+    let (number, byte) = second::judge(sheet);
+    let wanted = (number, if number == 0 { usize::MAX } else { byte });
+    for (name, side) in SIDES {
+        same("judgement", name, judged(side, sheet), wanted)?;
+    }
+    Ok(number == 0)
+}
+
+fn look_at_field(sheet: &[u8], at: usize) -> Result<Option<usize>, String> {
+    let found = second::read(sheet, at);
+    let untouched: (Values, usize) = ([i64::MIN; 6], usize::MAX);
+    let wanted = match found {
+        Ok((values, next)) => (0, values, next),
+        Err(number) => (number, untouched.0, untouched.1),
+    };
+    for (name, side) in SIDES {
+        let (mut values, mut next) = untouched;
+        let number = side.read_at(sheet, at, &mut values, &mut next);
+        same(&format!("the field at {at}"), name, (number, values, next), wanted)?;
+    }
+    Ok(found.ok().map(|(_, next)| next))
+}
+
+/// The fields up to a refusal, and fields at places that are none.
+fn look_at_fields(sheet: &[u8], item: usize) -> Result<(), String> {
+    let mut at = 0;
+    while let Some(next) = look_at_field(sheet, at)? {
+        at = next;
+    }
+    for place in [item % (sheet.len() + 4), sheet.len(), usize::MAX - item % 20] {
+        look_at_field(sheet, place)?;
+    }
+    Ok(())
+}
+
+fn look_at_answers(name: &str, side: &Functions, sheet: &[u8]) -> Result<(), String> {
+    let (mut rows, mut at): (Rows, usize) = ([u64::MAX; 18], usize::MAX);
+    let number = side.answers_at(sheet, &mut rows, &mut at);
+    let wanted = match second::answers_by_spans(sheet) {
+        Ok(rows) => (0, rows, usize::MAX),
+        Err((number, byte)) => (number, [u64::MAX; 18], byte),
+    };
+    same("answers", name, (number, rows, at), wanted)
+}
+
+/// The list in a room with bytes behind it, in one that it just fills, and in one a byte too short.
+fn look_at_list(name: &str, side: &Functions, sheet: &[u8], rooms: &[usize]) -> Result<(), String> {
+    let list = closing_list_by_spans(sheet);
+    for room in rooms.iter().map(|more| if *more == ROOM { ROOM } else { list.len() - 1 + more }) {
+        let mut out = [FILL; ROOM];
+        let mut wanted = [FILL; ROOM];
+        let length = if room < list.len() { 0 } else { list.len() };
+        wanted[..length].copy_from_slice(&list[..length]);
+        same("the list's length", name, side.list(sheet, &mut out[..room]), length)?;
+        same("the list", name, out.escape_ascii().to_string(), wanted.escape_ascii().to_string())?;
+    }
+    Ok(())
+}
+
+/// All that the limit says of a sheet, and of it what the library says within a short time.
+fn look(sheet: &[u8], tally: &mut Tally) -> Result<(), String> {
+    let accepted = look_at_judgement(sheet)?;
+    tally.judged += 1;
+    if sheet.len() <= LONGEST_READ {
+        look_at_fields(sheet, tally.judged)?;
+        tally.read += 1;
+    }
+    look_at_answers("limit", &LIMIT, sheet)?;
+    look_at_list("limit", &LIMIT, sheet, &[ROOM, 1, 0])?;
+    tally.priced += usize::from(accepted);
+    if !accepted || tally.priced.is_multiple_of(PRICED_BY_LIBRARY) {
+        look_at_answers("library", &LIBRARY, sheet)?;
+        look_at_list("library", &LIBRARY, sheet, &[ROOM])?;
+        tally.priced_by_library += usize::from(accepted);
+    }
+    Ok(())
+}
+
+fn shown(sheet: &[u8]) -> String {
+    let hexadecimal: String = sheet.iter().take(1_000).map(|byte| format!("{byte:02x}")).collect();
+    format!("a sheet of {} bytes, the first 1,000 at most: {hexadecimal}", sheet.len())
+}
+
+/// Everything of one accepted sheet by all, the independent program's walk over the milliseconds included.
+pub fn agree(sheet: &[u8]) -> Result<(), String> {
+    let look = || {
+        look_at_judgement(sheet)?;
+        look_at_fields(sheet, 0)?;
+        for (name, side) in SIDES {
+            look_at_answers(name, side, sheet)?;
+            look_at_list(name, side, sheet, &[ROOM])?;
+        }
+        same("answers by spans", "spans", second::answers_by_spans(sheet), second::answers_by_walking(sheet))
+    };
+    look().map_err(|difference| format!("{difference}\n{}", shown(sheet)))
+}
+
+/// The three sides over all sheets made for it: how many, or the first difference.
+pub fn compare() -> Result<Tally, String> {
+    let mut tally = Tally::default();
+    let mut found = Ok(());
+    visit_all(&mut |sheet| {
+        if found.is_ok() {
+            found = look(sheet, &mut tally).map_err(|difference| format!("{difference}\n{}", shown(sheet)));
+        }
+    });
+    found.map(|()| tally)
+}
