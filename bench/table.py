@@ -5,23 +5,23 @@ import sys
 
 SIZES = [130, 65536, 1048576]
 SHEETS = {'trades': 'mostly trades', 'quotes': 'mostly quotes', 'twap': 'all by TWAP', 'vwap': 'all by VWAP'}
-WAYS = {'judge': ['independent'], 'read': ['fields', 'numbers'], 'list': ['walking', 'spans'], 'answers': ['walking', 'spans']}
+WORKS = ['judge', 'read', 'list', 'answers']
+SIDES = ['library', 'independent', 'limit']
 
 
-def lines(name):
-    """By work, sheet and size: the library's own numbers, and library / each other way."""
+def numbers(name):
+    """By work, sheet and size: each side's nanoseconds or instructions."""
     found = {}
     for line in open(name):
-        words = re.match(r'(judge|read|list|answers) +(\w+) +(\d+) +(.*)', line)
+        words = re.match(r'(judge|read|list|answers) +(\w+) +(\d+) ', line)
         if words:
-            work, sheet, size, rest = words.groups()
-            ratios = {way: float(ratio) for way, ratio in re.findall(r'([a-z]+) \d+ \(([\d.]+)\)', rest)}
-            found[work, sheet, int(size)] = (rest.split(), ratios)
+            work, sheet, size = words.groups()
+            found[work, sheet, int(size)] = {side: float(number) for side, number in re.findall(r'([a-z]+) ([\d.]+) \(', line)}
     return found
 
 
-def ratio(number):
-    return f'{number:.2f}' if number < 10 else f'{number:,.0f}'
+def figure(number):
+    return f'{number:.2f}' if number < 100 else f'{number:,.0f}'
 
 
 def time(nanoseconds):
@@ -31,29 +31,36 @@ def time(nanoseconds):
     return f'{nanoseconds:.0f} ns'
 
 
-def row(cells):
-    print('| ' + ' | '.join(cells) + ' |')
+def table(heads, cells):
+    """Markdown: a row for each work and sheet, its cells by the function."""
+    print('| Work | Sheet | ' + ' | '.join(heads) + ' |')
+    print('|---|---|' + '---:|' * len(heads))
+    for work in WORKS:
+        for sheet, name in SHEETS.items():
+            print(f'| {work} | {name} | ' + ' | '.join(cells(work, sheet)) + ' |')
+    print()
 
 
 def main():
-    times, counts = lines(sys.argv[1]), lines(sys.argv[2])
-    for work, ways in WAYS.items():
-        for sheet, name in SHEETS.items():
-            cells = [work, name]
-            for found in (times, counts):
-                for size in SIZES:
-                    entry = found.get((work, sheet, size))
-                    cells.append(', '.join(ratio(entry[1][way]) for way in ways) if entry else '–')
-            row(cells)
-    print()
-    for work in WAYS:
-        for sheet, name in SHEETS.items():
-            kept = [size for size in SIZES if (work, sheet, size) in times]
-            gone = ['–'] * (len(SIZES) - len(kept))
-            row([work, name]
-                + [time(float(times[work, sheet, size][0][1])) for size in kept] + gone
-                + [f'{float(times[work, sheet, size][0][2]):,.2f}' for size in kept[1:]] + gone
-                + [f'{float(counts[work, sheet, size][0][1]):,.2f}' for size in kept[1:]] + gone)
+    times, counts = numbers(sys.argv[1]), numbers(sys.argv[2])
+
+    def cell(found, key, show):
+        return show(found[key]) if key in found else '–'
+
+    def ratios(work, sheet):
+        return [cell(times, (work, sheet, size), lambda sides: figure(sides['library'] / sides[other]))
+                for other in SIDES[1:] for size in SIZES]
+
+    def own(work, sheet):
+        return ([cell(times, (work, sheet, size), lambda sides: time(sides['library'])) for size in SIZES]
+                + [cell(counts, (work, sheet, size),
+                        lambda sides: ' / '.join(figure(sides[side] / size) if size > 130 else f'{sides[side]:,.0f}' for side in SIDES))
+                   for size in SIZES])
+
+    table([f'library / {other}, {size:,} B' for other in SIDES[1:] for size in SIZES], ratios)
+    print('Instructions of library / independent / limit: of the one call at 130 bytes, a byte at the others.\n')
+    table([f'library, {size:,} B' for size in SIZES]
+          + ['instructions, 130 B'] + [f'instructions a byte, {size:,} B' for size in SIZES[1:]], own)
 
 
 main()
