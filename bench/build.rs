@@ -1,4 +1,5 @@
-//! Links the archive that `rt staticlib bliskoru` writes, and the limit, which is compiled here.
+//! Links the library's archive, which is that of `rt staticlib bliskoru` on x86-64 and that of `bench/native`
+//! elsewhere, and the limit, which is compiled here.
 
 use std::path::Path;
 use std::process::Command;
@@ -10,7 +11,8 @@ fn run(program: &str, words: &[&str]) {
 
 fn main() {
     let bench = Path::new(env!("CARGO_MANIFEST_DIR"));
-    let folder = bench.join("../target/staticlib");
+    let x86_64 = std::env::var("CARGO_CFG_TARGET_ARCH").is_ok_and(|name| name == "x86_64");
+    let folder = bench.join(if x86_64 { "../target/staticlib" } else { "target/native" });
     println!("cargo:rustc-link-search=native={}", folder.display());
     println!("cargo:rustc-link-lib=static=bliskoru");
     println!("cargo:rerun-if-changed={}", folder.join("libbliskoru.a").display());
