@@ -1,5 +1,5 @@
 //! Links the library's archive, which is that of `rt staticlib bliskoru` on x86-64 and that of `bench/native`
-//! elsewhere, and the limit, which is compiled here.
+//! elsewhere, and the two C programs beside it, which are compiled here.
 
 use std::path::Path;
 use std::process::Command;
@@ -18,14 +18,16 @@ fn main() {
     println!("cargo:rerun-if-changed={}", folder.join("libbliskoru.a").display());
 
     let out = std::env::var("OUT_DIR").expect("cargo names the folder");
-    let (source, object, archive) =
-        (bench.join("limit.c"), format!("{out}/limit.o"), format!("{out}/liblimit.a"));
-    let source = source.to_str().expect("a path in UTF-8");
-    run("gcc", &["-std=c99", "-O3", "-g1", "-Wall", "-Wextra", "-Werror", "-c", source, "-o", &object]);
-    run("ar", &["rcs", &archive, &object]);
     println!("cargo:rustc-link-search=native={out}");
-    println!("cargo:rustc-link-lib=static=limit");
-    for name in ["limit.c", "limit.h"] {
+    for name in ["plain", "limit"] {
+        let (object, archive) = (format!("{out}/{name}.o"), format!("{out}/lib{name}.a"));
+        let source = bench.join(format!("{name}.c"));
+        let source = source.to_str().expect("a path in UTF-8");
+        run("gcc", &["-std=c99", "-O3", "-g1", "-Wall", "-Wextra", "-Werror", "-c", source, "-o", &object]);
+        run("ar", &["rcs", &archive, &object]);
+        println!("cargo:rustc-link-lib=static={name}");
+    }
+    for name in ["plain.c", "limit.c", "pricing.h", "sides.h"] {
         println!("cargo:rerun-if-changed={}", bench.join(name).display());
     }
 }

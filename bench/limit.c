@@ -1,40 +1,20 @@
 /*
- * The limit: a day sheet judged, read, priced and listed by plain C written for speed, with the results of hosts/c/bliskoru.h's functions of
+ * The limit: a day sheet judged, read, priced and listed by C written for speed, with the results of hosts/c/bliskoru.h's functions of
  * the same shapes. Nothing is copied and nothing is kept; no heap.
  *
  * A good sheet is taken in one pass that only asks "is this record good?". Where it stops, `refusal` finds the number field by field.
  */
-#include "limit.h"
+#include "sides.h"
+#include "pricing.h"
 
-#include <string.h>
-
-#if __BYTE_ORDER__ != __ORDER_LITTLE_ENDIAN__
-#error "written for processors that store the lowest byte first"
-#endif
-
-#define INLINE static inline __attribute__((always_inline))
 #define UNLIKELY(test) __builtin_expect(!!(test), 0)
 
-typedef const uint8_t *Bytes;
-
-enum { LONGEST = 1048576, LONGEST_LISTED = 65536, WINDOW = 300000, DAY = 86400000, CONTRACTS = 6, INSTRUMENTS = 12, LIST_ROOM = 256 };
+enum { LONGEST_LISTED = 65536, LIST_ROOM = 256 };
 
 /* A field's three head bytes as `head` loads them, and the bytes of the whole field. */
 #define HEAD(tag, length) ((tag) | (length) << 16)
 enum { HEADER = HEAD(1, 3), CLOSE = HEAD(2, 5), TRADE = HEAD(3, 11), QUOTE = HEAD(4, 14), END = HEAD(5, 4) };
 enum { HEADER_BYTES = 6, CLOSE_BYTES = 8, TRADE_BYTES = 14, QUOTE_BYTES = 17, END_BYTES = 7 };
-
-INLINE uint32_t big16(Bytes p) {
-    uint16_t word;
-    memcpy(&word, p, sizeof word);
-    return __builtin_bswap16(word);
-}
-
-INLINE uint32_t big32(Bytes p) {
-    uint32_t word;
-    memcpy(&word, p, sizeof word);
-    return __builtin_bswap32(word);
-}
 
 INLINE uint64_t big64(Bytes p) {
     uint64_t word;
@@ -159,11 +139,6 @@ static __attribute__((noinline, cold)) unsigned refusal(Bytes sheet, size_t len,
     }
 }
 
-/* The lots and lots times price of an instrument's trades. */
-struct total {
-    int64_t lots, value;
-};
-
 /* The header and the closes as far as they are good; where wanted, the closes are kept. */
 INLINE struct good opening(Bytes sheet, size_t len, int32_t *kept) {
     struct good good = {sheet, 0, 0, -1, 0};
@@ -282,19 +257,6 @@ struct day {
     int32_t references[2][INSTRUMENTS];
 };
 
-/* By metal. The anchor window follows upon the spread window. */
-static const struct metal {
-    char name[12];
-    uint32_t length, spread_start, step;
-} METALS[6] = {
-    {"", 0, 0, 1},
-    {"Nickel\n", 7, 58200000, 100},
-    {"Aluminium\n", 10, 58800000, 50},
-    {"Zinc\n", 5, 59400000, 50},
-    {"Copper\n", 7, 60000000, 50},
-    {"Lead\n", 5, 60600000, 50},
-};
-
 enum { SPREADS, ANCHOR };
 
 /* Judges a sheet and adds up its day. Times never fall, so the windows cut the records into four runs, and no record asks which it is in. */
@@ -361,78 +323,34 @@ static int has_reference(const struct day *day, int window, int instrument) {
     return 0;
 }
 
-/* Contract k is priced from the instruments FIRST[k] up to FIRST[k + 1], and by TWAP from ASKED[k]. */
-static const uint8_t FIRST[CONTRACTS + 1] = {0, 1, 2, 4, 7, 11, 12};
-static const uint8_t ASKED[CONTRACTS] = {0, 1, 3, 5, 7, 11};
-
-/* The contract at an instrument's other leg; 3M outright has none, whose close is 0. */
-enum { NOTHING = CONTRACTS };
-static const uint8_t OTHER[INSTRUMENTS] = {NOTHING, 0, 0, 1, 2, 1, 0, 2, 1, 0, 3, 4};
-
-/* The spreads that are taken from their other leg: those of M4. */
-enum { TAKEN = 1 << 4 | 1 << 5 | 1 << 6 };
-
-INLINE int64_t turned(uint32_t less, int instrument, int64_t price) {
-    return less >> instrument & 1 ? -price : price;
-}
-
-/* sum / parts to a step, halves up; 0 for what lies below 0, since neither is a close. */
-INLINE uint64_t rounded(int64_t sum, int64_t parts, int64_t step) {
-    int64_t above = 2 * sum + parts * step;
-    return above < 0 ? 0 : (uint64_t)above / (uint64_t)(2 * parts * step) * (uint64_t)step;
-}
-
-/* What pricing goes by: the judged day, the closes so far, and the indicators where a contract asked for them. */
-struct pricing {
+/* The indicators of a judged day, of each window once a contract asked for one. */
+struct walks {
     const struct day *day;
-    uint32_t less;
     int walked[2];
-    int64_t closes[CONTRACTS + 1];
     struct book books[2][INSTRUMENTS];
 };
 
-/* What is divided by WINDOW for a contract by TWAP; `refused` where no indicator stands at the start. */
-static int64_t by_time(struct pricing *pricing, int k, int window, int *refused) {
-    int asked = ASKED[k];
-    if (!pricing->walked[window]++) walk(pricing->day, window, pricing->books[window]);
-    *refused = !has_reference(pricing->day, window, asked);
-    return WINDOW * pricing->closes[OTHER[asked]] + turned(pricing->less, asked, pricing->books[window][asked].sum);
-}
-
-/* The row of a contract; its number says whether the list goes on. */
-INLINE int contract(struct pricing *pricing, int k, int64_t step, uint64_t *row) {
-    int window = k ? SPREADS : ANCHOR, method = 1, refused = 0;
-    const struct total *totals = pricing->day->totals[window];
-    int64_t lots = 0, sum = 0, parts;
-    for (int i = FIRST[k]; i < FIRST[k + 1]; i++) {
-        lots += totals[i].lots;
-        sum += totals[i].lots * pricing->closes[OTHER[i]] + turned(pricing->less, i, totals[i].value);
-    }
-    parts = lots;
-    if (lots < 5) sum = by_time(pricing, k, window, &refused), parts = WINDOW, method = 2;
-    uint64_t close = rounded(sum, parts, step);
-    if (UNLIKELY(refused || close - 1 >= 99999999)) method = refused ? 13 : 14, close = 0;
-    row[0] = (uint64_t)method, row[1] = close, row[2] = (uint64_t)lots;
-    pricing->closes[k] = (int64_t)close;
-    return method <= 2;
+static int64_t indicated(void *given, int instrument, int *refused) {
+    struct walks *walks = given;
+    int window = instrument ? SPREADS : ANCHOR;
+    if (!walks->walked[window]++) walk(walks->day, window, walks->books[window]);
+    *refused = !has_reference(walks->day, window, instrument);
+    return walks->books[window][instrument].sum;
 }
 
 /* The six rows of a judged day. */
-static void price(const struct day *day, Bytes sheet, uint64_t *rows) {
-    struct pricing pricing;
-    pricing.day = day;
-    pricing.less = big16(sheet + 4) << 1 ^ TAKEN;
-    pricing.walked[SPREADS] = pricing.walked[ANCHOR] = 0;
-    pricing.closes[NOTHING] = 0;
-    int k = 1, open = contract(&pricing, 0, METALS[sheet[3]].step, rows);
-    for (; k < CONTRACTS && open; k++) open = contract(&pricing, k, 1, rows + 3 * k);
-    for (; k < CONTRACTS; k++) rows[3 * k] = 15, rows[3 * k + 1] = rows[3 * k + 2] = 0;
+static void price_day(struct day *day, Bytes sheet, uint64_t *rows) {
+    struct walks walks;
+    walks.day = day;
+    walks.walked[SPREADS] = walks.walked[ANCHOR] = 0;
+    day->totals[SPREADS][0] = day->totals[ANCHOR][0];
+    price(sheet, day->totals[SPREADS], indicated, &walks, rows);
 }
 
 uint8_t limit_answers(const uint8_t *sheet, size_t len, uint64_t *answers, size_t *at) {
     struct day day;
     unsigned number = survey(sheet, len, &day, at);
-    if (!number) price(&day, sheet, answers);
+    if (!number) price_day(&day, sheet, answers);
     return (uint8_t)number;
 }
 
@@ -479,7 +397,7 @@ static uint8_t *put_list(Bytes sheet, size_t len, uint8_t *out) {
     if (UNLIKELY(len > LONGEST_LISTED)) return memcpy(out, "too long\n", 9), out + 9;
     unsigned number = survey(sheet, len, &day, &at);
     if (number) return put_number(put_number(put_text(out, &METHODS[0]), number, ' '), (uint32_t)at, '\n');
-    price(&day, sheet, rows);
+    price_day(&day, sheet, rows);
     memcpy(out, METALS[sheet[3]].name, sizeof METALS->name);
     out += METALS[sheet[3]].length;
     for (int k = 0; k < CONTRACTS; k++) out = put_row(out, k, rows + 3 * k);

@@ -1,4 +1,4 @@
-//! Sheets to hold the three sides to one another: the short sheets of the benchmark with every byte changed,
+//! Sheets to hold the four sides to one another: the short sheets of the benchmark with every byte changed,
 //! cut and lengthened, longer ones damaged at random, and those of the independent program's generator.
 
 use crate::sheets::{sheet, KINDS};

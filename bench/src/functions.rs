@@ -1,5 +1,5 @@
-//! The functions of the archive and those of `limit.c`, which have the same shapes, as safe functions over
-//! slices.
+//! The functions of the archive and those of `plain.c` and `limit.c`, which have the same shapes, as safe
+//! functions over slices.
 
 /// A field's tag and values, zeros behind them.
 pub type Values = [i64; 6];
@@ -9,7 +9,6 @@ pub type Rows = [u64; 18];
 
 /// One side's functions; `hosts/c/bliskoru.h` says what each does.
 pub struct Functions {
-    list: unsafe extern "C" fn(*const u8, usize, *mut u8, usize) -> usize,
     judge: unsafe extern "C" fn(*const u8, usize, *mut usize) -> u8,
     answers: unsafe extern "C" fn(*const u8, usize, *mut Rows, *mut usize) -> u8,
     read: unsafe extern "C" fn(*const u8, usize, usize, *mut Values, *mut usize) -> u8,
@@ -21,25 +20,36 @@ extern "C" {
     fn bliskoru_answers(sheet: *const u8, len: usize, rows: *mut Rows, at: *mut usize) -> u8;
     fn bliskoru_read(sheet: *const u8, len: usize, at: usize, values: *mut Values, next: *mut usize) -> u8;
 
+    fn plain_judge(sheet: *const u8, len: usize, at: *mut usize) -> u8;
+    fn plain_answers(sheet: *const u8, len: usize, rows: *mut Rows, at: *mut usize) -> u8;
+    fn plain_read(sheet: *const u8, len: usize, at: usize, values: *mut Values, next: *mut usize) -> u8;
+
     fn limit_list(sheet: *const u8, len: usize, out: *mut u8, room: usize) -> usize;
     fn limit_judge(sheet: *const u8, len: usize, at: *mut usize) -> u8;
     fn limit_answers(sheet: *const u8, len: usize, rows: *mut Rows, at: *mut usize) -> u8;
     fn limit_read(sheet: *const u8, len: usize, at: usize, values: *mut Values, next: *mut usize) -> u8;
 }
 
+/// One side's list; `plain.c` has none.
+pub struct Lister(unsafe extern "C" fn(*const u8, usize, *mut u8, usize) -> usize);
+
 pub const LIBRARY: Functions =
-    Functions { list: bliskoru_list, judge: bliskoru_judge, answers: bliskoru_answers, read: bliskoru_read };
+    Functions { judge: bliskoru_judge, answers: bliskoru_answers, read: bliskoru_read };
+pub const PLAIN: Functions = Functions { judge: plain_judge, answers: plain_answers, read: plain_read };
+pub const LIMIT: Functions = Functions { judge: limit_judge, answers: limit_answers, read: limit_read };
 
-pub const LIMIT: Functions =
-    Functions { list: limit_list, judge: limit_judge, answers: limit_answers, read: limit_read };
+pub const LIBRARY_LIST: Lister = Lister(bliskoru_list);
+pub const LIMIT_LIST: Lister = Lister(limit_list);
 
-impl Functions {
+impl Lister {
     /// The closing list, and its length; 0 where the room is too short.
     pub fn list(&self, sheet: &[u8], out: &mut [u8]) -> usize {
         // SAFETY: both pairs are a live slice's pointer and length.
-        unsafe { (self.list)(sheet.as_ptr(), sheet.len(), out.as_mut_ptr(), out.len()) }
+        unsafe { (self.0)(sheet.as_ptr(), sheet.len(), out.as_mut_ptr(), out.len()) }
     }
+}
 
+impl Functions {
     /// The refusal's number, 0 for none; its byte is left in `at`.
     pub fn judge_at(&self, sheet: &[u8], at: &mut usize) -> u8 {
         // SAFETY: the pair is a live slice's; `at` is a live number.

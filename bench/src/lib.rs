@@ -1,11 +1,11 @@
-//! What the benchmark compares: the proved library, the independent program and the limit,
+//! What the benchmark compares: the proved library, the independent program, `plain.c` and `limit.c`,
 //! by the same functions over the same sheets.
 //!
-//! * [`functions`] the archive's functions and the limit's
+//! * [`functions`] the archive's functions and those of the C programs
 //! * [`second`]    the independent program's, in the same shapes
 //! * [`sheets`]    the sheets that are timed
 //! * [`damaged`]   the sheets that are only compared
-//! * [`same`]      the three sides held to one another
+//! * [`same`]      the four sides held to one another
 //! * [`work`]      the pieces of work, by name, for each side
 
 pub mod damaged;

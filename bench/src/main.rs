@@ -1,4 +1,4 @@
-//! Holds the three sides to one another, then times each piece of work on every sheet, the ways to do it taking
+//! Holds the four sides to one another, then times each piece of work on every sheet, the ways to do it taking
 //! turns in one loop, and keeps the least time of each. `bench compare` does the first part alone.
 
 use bench::same::{agree, compare};

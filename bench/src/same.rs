@@ -1,8 +1,8 @@
-//! The three sides held to one another over a sheet: judgement, fields, answers and list, and every byte that a
+//! The four sides held to one another over a sheet: judgement, fields, answers and list, and every byte that a
 //! call leaves as it was.
 
 use crate::damaged::visit_all;
-use crate::functions::{Functions, Rows, Values, LIBRARY, LIMIT};
+use crate::functions::{Functions, Lister, Rows, Values, LIBRARY, LIBRARY_LIST, LIMIT, LIMIT_LIST, PLAIN};
 use crate::second;
 use independent::list::closing_list_by_spans;
 use std::fmt::{self, Debug, Display};
@@ -29,10 +29,10 @@ pub struct Tally {
 impl Display for Tally {
     fn fmt(&self, f: &mut fmt::Formatter) -> fmt::Result {
         let Tally { judged, read, priced, priced_by_library } = self;
-        write!(f, "{judged} sheets judged by all three, the fields of {read} read by all three; ")?;
+        write!(f, "{judged} sheets judged by all four, the fields of {read} read by all four; ")?;
         write!(
             f,
-            "{priced} accepted and priced by independent and limit, {priced_by_library} by the library too"
+            "{priced} accepted and priced by independent, plain and limit, {priced_by_library} by the library too"
         )
     }
 }
@@ -44,7 +44,7 @@ fn same<T: PartialEq + Debug>(what: &str, side: &str, given: T, wanted: T) -> Re
     Err(format!("{what}: the {side} gives {given:?}, the independent program {wanted:?}"))
 }
 
-const SIDES: [(&str, &Functions); 2] = [("library", &LIBRARY), ("limit", &LIMIT)];
+const SIDES: [(&str, &Functions); 3] = [("library", &LIBRARY), ("plain", &PLAIN), ("limit", &LIMIT)];
 
 /// The number and what is left in the place, which a good sheet leaves as it was.
 fn judged(side: &Functions, sheet: &[u8]) -> (u8, usize) {
@@ -100,7 +100,7 @@ fn look_at_answers(name: &str, side: &Functions, sheet: &[u8]) -> Result<(), Str
 }
 
 /// The list in a room with bytes behind it, in one that it just fills, and in one a byte too short.
-fn look_at_list(name: &str, side: &Functions, sheet: &[u8], rooms: &[usize]) -> Result<(), String> {
+fn look_at_list(name: &str, side: &Lister, sheet: &[u8], rooms: &[usize]) -> Result<(), String> {
     let list = closing_list_by_spans(sheet);
     for room in rooms.iter().map(|more| if *more == ROOM { ROOM } else { list.len() - 1 + more }) {
         let mut out = [FILL; ROOM];
@@ -113,7 +113,7 @@ fn look_at_list(name: &str, side: &Functions, sheet: &[u8], rooms: &[usize]) -> 
     Ok(())
 }
 
-/// All that the limit says of a sheet, and of it what the library says within a short time.
+/// All that the C programs say of a sheet, and of it what the library says within a short time.
 fn look(sheet: &[u8], tally: &mut Tally) -> Result<(), String> {
     let accepted = look_at_judgement(sheet)?;
     tally.judged += 1;
@@ -121,12 +121,13 @@ fn look(sheet: &[u8], tally: &mut Tally) -> Result<(), String> {
         look_at_fields(sheet, tally.judged)?;
         tally.read += 1;
     }
+    look_at_answers("plain", &PLAIN, sheet)?;
     look_at_answers("limit", &LIMIT, sheet)?;
-    look_at_list("limit", &LIMIT, sheet, &[ROOM, 1, 0])?;
+    look_at_list("limit", &LIMIT_LIST, sheet, &[ROOM, 1, 0])?;
     tally.priced += usize::from(accepted);
     if !accepted || tally.priced.is_multiple_of(PRICED_BY_LIBRARY) {
         look_at_answers("library", &LIBRARY, sheet)?;
-        look_at_list("library", &LIBRARY, sheet, &[ROOM])?;
+        look_at_list("library", &LIBRARY_LIST, sheet, &[ROOM])?;
         tally.priced_by_library += usize::from(accepted);
     }
     Ok(())
@@ -144,14 +145,15 @@ pub fn agree(sheet: &[u8]) -> Result<(), String> {
         look_at_fields(sheet, 0)?;
         for (name, side) in SIDES {
             look_at_answers(name, side, sheet)?;
-            look_at_list(name, side, sheet, &[ROOM])?;
         }
+        look_at_list("library", &LIBRARY_LIST, sheet, &[ROOM])?;
+        look_at_list("limit", &LIMIT_LIST, sheet, &[ROOM])?;
         same("answers by spans", "spans", second::answers_by_spans(sheet), second::answers_by_walking(sheet))
     };
     look().map_err(|difference| format!("{difference}\n{}", shown(sheet)))
 }
 
-/// The three sides over all sheets made for it: how many, or the first difference.
+/// The four sides over all sheets made for it: how many, or the first difference.
 pub fn compare() -> Result<Tally, String> {
     let mut tally = Tally::default();
     let mut found = Ok(());

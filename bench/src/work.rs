@@ -1,6 +1,6 @@
 //! The pieces of work that are timed and counted, by name, for each side.
 
-use crate::functions::{Functions, Values, LIBRARY, LIMIT};
+use crate::functions::{Functions, Lister, Values, LIBRARY, LIBRARY_LIST, LIMIT, LIMIT_LIST, PLAIN};
 use crate::second;
 use independent::list::{closing_list, closing_list_by_spans};
 use std::hint::black_box;
@@ -36,7 +36,7 @@ fn walk_second(sheet: &[u8]) {
     }
 }
 
-fn list(side: &Functions, sheet: &[u8]) {
+fn list(side: &Lister, sheet: &[u8]) {
     let mut out = [0; 512];
     black_box(side.list(sheet, &mut out));
     black_box(&out);
@@ -46,8 +46,8 @@ fn hold<T>(given: T) {
     black_box(given);
 }
 
-/// The library, the independent program and the limit are the first three ways of each. The fourth, `walking`,
-/// is the independent program's TWAP by every millisecond, as the library takes it.
+/// The ways of each, the library first. `walking` is the independent program's TWAP by every millisecond, as the
+/// library takes it.
 pub const ALL: [Work; 4] = [
     Work {
         name: "judge",
@@ -55,6 +55,7 @@ pub const ALL: [Work; 4] = [
         ways: &[
             Way { side: "library", run: |sheet| hold(LIBRARY.judge(sheet)) },
             Way { side: "independent", run: |sheet| hold(second::judge(sheet)) },
+            Way { side: "plain", run: |sheet| hold(PLAIN.judge(sheet)) },
             Way { side: "limit", run: |sheet| hold(LIMIT.judge(sheet)) },
         ],
     },
@@ -64,6 +65,7 @@ pub const ALL: [Work; 4] = [
         ways: &[
             Way { side: "library", run: |sheet| walk(&LIBRARY, sheet) },
             Way { side: "independent", run: walk_second },
+            Way { side: "plain", run: |sheet| walk(&PLAIN, sheet) },
             Way { side: "limit", run: |sheet| walk(&LIMIT, sheet) },
         ],
     },
@@ -71,9 +73,9 @@ pub const ALL: [Work; 4] = [
         name: "list",
         limit: 65_536,
         ways: &[
-            Way { side: "library", run: |sheet| list(&LIBRARY, sheet) },
+            Way { side: "library", run: |sheet| list(&LIBRARY_LIST, sheet) },
             Way { side: "independent", run: |sheet| hold(closing_list_by_spans(sheet)) },
-            Way { side: "limit", run: |sheet| list(&LIMIT, sheet) },
+            Way { side: "limit", run: |sheet| list(&LIMIT_LIST, sheet) },
             Way { side: "walking", run: |sheet| hold(closing_list(sheet)) },
         ],
     },
@@ -83,6 +85,7 @@ pub const ALL: [Work; 4] = [
         ways: &[
             Way { side: "library", run: |sheet| hold(LIBRARY.answers(sheet)) },
             Way { side: "independent", run: |sheet| hold(second::answers_by_spans(sheet)) },
+            Way { side: "plain", run: |sheet| hold(PLAIN.answers(sheet)) },
             Way { side: "limit", run: |sheet| hold(LIMIT.answers(sheet)) },
             Way { side: "walking", run: |sheet| hold(second::answers_by_walking(sheet)) },
         ],

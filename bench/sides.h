@@ -1,9 +1,13 @@
-/* The limit's functions: those of hosts/c/bliskoru.h by other names. */
-#ifndef LIMIT_H
-#define LIMIT_H
+/* The functions of plain.c and of limit.c: those of hosts/c/bliskoru.h by other names. */
+#ifndef SIDES_H
+#define SIDES_H
 
 #include <stddef.h>
 #include <stdint.h>
+
+uint8_t plain_judge(const uint8_t *sheet, size_t len, size_t *at);
+uint8_t plain_read(const uint8_t *sheet, size_t len, size_t at, int64_t *values, size_t *next);
+uint8_t plain_answers(const uint8_t *sheet, size_t len, uint64_t *answers, size_t *at);
 
 uint8_t limit_judge(const uint8_t *sheet, size_t len, size_t *at);
 uint8_t limit_read(const uint8_t *sheet, size_t len, size_t at, int64_t *values, size_t *next);
