@@ -1,22 +1,22 @@
 #!/usr/bin/env python3
-"""The two tables of docs/PERFORMANCE.md from what `bench/run times` and `bench/run instructions` printed: table.py TIMES INSTRUCTIONS"""
+"""The tables of docs/PERFORMANCE.md from what the parts of bench/run printed: table.py TIMES INSTRUCTIONS, or table.py --emulated EMULATED"""
 import re
 import sys
 
 SIZES = [130, 65536, 1048576]
 SHEETS = {'trades': 'mostly trades', 'quotes': 'mostly quotes', 'twap': 'all by TWAP', 'vwap': 'all by VWAP'}
-WORKS = ['judge', 'read', 'list', 'answers']
-SIDES = ['library', 'independent', 'limit']
+SIDES = ['library', 'independent', 'plain', 'limit']
 
 
 def numbers(name):
     """By work, sheet and size: each side's nanoseconds or instructions."""
     found = {}
-    for line in open(name):
-        words = re.match(r'(judge|read|list|answers) +(\w+) +(\d+) ', line)
-        if words:
-            work, sheet, size = words.groups()
-            found[work, sheet, int(size)] = {side: float(number) for side, number in re.findall(r'([a-z]+) ([\d.]+) \(', line)}
+    with open(name, encoding='utf-8') as lines:
+        for line in lines:
+            words = re.match(r'(judge|read|list|answers) +(\w+) +(\d+) ', line)
+            if words:
+                work, sheet, size = words.groups()
+                found[work, sheet, int(size)] = {side: float(number) for side, number in re.findall(r'([a-z]+) ([\d.]+) \(', line)}
     return found
 
 
@@ -31,36 +31,54 @@ def time(nanoseconds):
     return f'{nanoseconds:.0f} ns'
 
 
-def table(heads, cells):
+def ratio(times, other):
+    return figure(times['library'] / times[other]) if other in times else '–'
+
+
+def instructions(counts, size, sides):
+    """Of the one call at the least size, a byte at the others."""
+    def one(side):
+        if side not in counts:
+            return '–'
+        return f'{counts[side]:,.0f}' if size == SIZES[0] else figure(counts[side] / size)
+    return ' / '.join(map(one, sides)) if counts else '–'
+
+
+def by_size(what):
+    return [f'{what}, {SIZES[0]} bytes'] + [f'{size:,}' for size in SIZES[1:]]
+
+
+def counted(sides):
+    return [f'instructions ({" / ".join(sides)}), {SIZES[0]} bytes'] + [f'a byte, {size:,}' for size in SIZES[1:]]
+
+
+def table(found, heads, cells):
     """Markdown: a row for each work and sheet, its cells by the function."""
     print('| Work | Sheet | ' + ' | '.join(heads) + ' |')
     print('|---|---|' + '---:|' * len(heads))
-    for work in WORKS:
+    for work in dict.fromkeys(work for work, _, _ in found):
         for sheet, name in SHEETS.items():
             print(f'| {work} | {name} | ' + ' | '.join(cells(work, sheet)) + ' |')
     print()
 
 
 def main():
+    if sys.argv[1] == '--emulated':
+        counts, sides = numbers(sys.argv[2]), [side for side in SIDES if side != 'independent']
+        table(counts, counted(sides), lambda *key: [instructions(counts.get((*key, size), {}), size, sides) for size in SIZES])
+        return
     times, counts = numbers(sys.argv[1]), numbers(sys.argv[2])
 
-    def cell(found, key, show):
-        return show(found[key]) if key in found else '–'
+    def ratios(*key):
+        return [ratio(times.get((*key, size), {}), other) for other in SIDES[1:] for size in SIZES]
 
-    def ratios(work, sheet):
-        return [cell(times, (work, sheet, size), lambda sides: figure(sides['library'] / sides[other]))
-                for other in SIDES[1:] for size in SIZES]
+    def own(*key):
+        least = [times.get((*key, size), {}) for size in SIZES]
+        return ([time(sides['library']) if sides else '–' for sides in least]
+                + [instructions(counts.get((*key, size), {}), size, SIDES) for size in SIZES])
 
-    def own(work, sheet):
-        return ([cell(times, (work, sheet, size), lambda sides: time(sides['library'])) for size in SIZES]
-                + [cell(counts, (work, sheet, size),
-                        lambda sides: ' / '.join(figure(sides[side] / size) if size > 130 else f'{sides[side]:,.0f}' for side in SIDES))
-                   for size in SIZES])
-
-    table([f'library / {other}, {size:,} B' for other in SIDES[1:] for size in SIZES], ratios)
-    print('Instructions of library / independent / limit: of the one call at 130 bytes, a byte at the others.\n')
-    table([f'library, {size:,} B' for size in SIZES]
-          + ['instructions, 130 B'] + [f'instructions a byte, {size:,} B' for size in SIZES[1:]], own)
+    table(times, [head for other in SIDES[1:] for head in by_size(f'library / {other}')], ratios)
+    table(times, by_size('library') + counted(SIDES), own)
 
 
 main()
