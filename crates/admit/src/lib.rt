@@ -1,5 +1,5 @@
-// The fields of a day sheet one after the other: whether a field may come next, by its place, its values and the end's count. Hosts don't
-// call it.
+// The fields of a day sheet one after the other. Hosts don't call it. Whether a field may come next, by its place, its values and the end's count,
+// and what is kept behind it.
 ghost use mathlib.Core.Path.{_≡_};
 ghost use Prim.Native.Nat.{_<_};
 ghost use Rattle.field.specs.Layout.{tagOf};

@@ -44,7 +44,15 @@ use Rattle.trades.specs.Laws.{Small, same-total, join-none, total-append
 abbrev pub withTrade : Total → Price → ℕ → Total
 withTrade t price lots = record { lots = t .lots + lots; value = t .value +ℤ pos lots *ℤ price .cents }
 
--- a trade counts inside its instrument's window, by the row of the metal, and no other field does
+-- a trade counts inside its instrument's window, and no other field does
+unfoldable pub countedOf : ℕ → Field → Counted
+countedOf metal (Header m marks) = C.Nothing
+countedOf metal (PreviousClose instrument price) = C.Nothing
+countedOf metal (Trade time instrument price lots) = cond (inWindow (startOf metal instrument) time) (C.Trade instrument price lots) C.Nothing
+countedOf metal (Quote time instrument sides bid offer) = C.Nothing
+countedOf metal (End count) = C.Nothing
+
+-- the same by the row of the metal, which the code has looked up
 unfoldable pub countedIn : Metal → Field → Counted
 countedIn row (Header m marks) = C.Nothing
 countedIn row (PreviousClose instrument price) = C.Nothing
@@ -52,13 +60,21 @@ countedIn row (Trade time instrument price lots) = cond (inWindow (startIn row i
 countedIn row (Quote time instrument sides bid offer) = C.Nothing
 countedIn row (End count) = C.Nothing
 
+counted-row : (metal : ℕ) (f : Field) → countedIn (metalOf metal) f ≡ countedOf metal f
+unfolding countedIn countedOf startIn startOf
+counted-row metal (Header m marks) = refl
+counted-row metal (PreviousClose instrument price) = refl
+counted-row metal (Trade time instrument price lots) = refl
+counted-row metal (Quote time instrument sides bid offer) = refl
+counted-row metal (End count) = refl
+
 -- a trade that counts is added to its instrument's total
 unfoldable pub addCounted : List Total → Counted → List Total
 addCounted ts C.Nothing = ts
 addCounted ts (C.Trade instrument price lots) = set ts instrument (withTrade (getD ts instrument none) price lots)
 
 abbrev pub addField : ℕ → List Total → Field → List Total
-addField metal ts f = addCounted ts (countedIn (metalOf metal) f)
+addField metal ts f = addCounted ts (countedOf metal f)
 
 -- ---- the pass goes on as the totals do
 
@@ -120,7 +136,7 @@ module _ (metal : ℕ) (fs : List Field) where
         by-test false e = trade-other metal i time instrument price lots (eqb-false instrument i e)
 
     totals-trade : totalsOf metal (fs ++ (trade ∷ [])) ≡ addField metal (totalsOf metal fs) trade
-    unfolding countedIn startIn startOf addCounted
+    unfolding countedOf addCounted
     totals-trade = by-test (inWindow (startOf metal instrument) time) refl
       where
         by-test : (b : Bool) → inWindow (startOf metal instrument) time ≡ b → totalsOf metal (fs ++ (trade ∷ [])) ≡ addCounted (totalsOf metal fs) (cond b (C.Trade instrument price lots) C.Nothing)
@@ -129,7 +145,7 @@ module _ (metal : ℕ) (fs : List Field) where
 
 -- one field more, whatever it is
 pub totals-step : (metal : ℕ) (fs : List Field) (f : Field) → totalsOf metal (fs ++ (f ∷ [])) ≡ addField metal (totalsOf metal fs) f
-unfolding countedIn addCounted tradeIn
+unfolding countedOf addCounted tradeIn
 totals-step metal fs (Header m marks) = totals-same metal fs (Header m marks) (λ i. refl)
 totals-step metal fs (PreviousClose instrument price) = totals-same metal fs (PreviousClose instrument price) (λ i. refl)
 totals-step metal fs (Trade time instrument price lots) = totals-trade metal fs time instrument price lots
@@ -252,15 +268,15 @@ module _ (metal : ℕ) (s : List ℕ) (at : ℕ) (ts : List Total) (o : Passing 
       pass-sound {f} h e g = subst (Sound 0) (trade-is h e) (sofar-here (totalsOf metal) s at ts (o .sofar) {r = R.Field (place .field) (place .next)} (sym (place .shape)) (Sound 0) (g .sound) refl)
 
       -- behind it, with what it counts
-      on-with : (c : Counted) → c ≡ countedIn (metalOf metal) (place .field) → {n : ℕ} → n ≡ sizeOf tag → Passing metal s (at + n) (addCounted ts c)
+      on-with : (c : Counted) → c ≡ countedOf metal (place .field) → {n : ℕ} → n ≡ sizeOf tag → Passing metal s (at + n) (addCounted ts c)
       on-with c g e = rw (sym (behind e)) (record {
         sofar = sofar-next (totalsOf metal) s at ts (o .sofar) {r = R.Field (place .field) (place .next)} (sym (place .shape)) (addField metal) (totals-step metal) refl (ap (addCounted ts) g);
         stood = place .rest;
       })
 
       module _ {f : Field} {c : Counted} {row : Metal} (three : tag ≡ 3) (d : f ≡ tradeOf (bodyAt s at 3)) (w : row ≡ metalOf metal) (g : c ≡ countedIn row f) where
-        found : c ≡ countedIn (metalOf metal) (place .field)
-        found = g ∙ ap (λ (r : Metal). countedIn r f) w ∙ ap (countedIn (metalOf metal)) (sym (trade-is three d))
+        found : c ≡ countedOf metal (place .field)
+        found = g ∙ ap (λ (r : Metal). countedIn r f) w ∙ counted-row metal f ∙ ap (countedOf metal) (sym (trade-is three d))
 
         pub pass-trade : {instrument : ℕ} {price : Price} {lots : ℕ} {t : Total} → c ≡ C.Trade instrument price lots → t ≡ withTrade (getD ts instrument none) price lots → Passing metal s (at + 14) (set ts instrument t)
         unfolding addCounted
@@ -272,10 +288,10 @@ module _ (metal : ℕ) (s : List ℕ) (at : ℕ) (ts : List Total) (o : Passing 
 
       -- a field under another tag is no trade
       pub pass-other : {n : ℕ} → (tag ≡ 3 → ⊥) → n ≡ sizeOf tag → Passing metal s (at + n) ts
-      unfolding addCounted countedIn
+      unfolding addCounted countedOf
       pass-other h e = on-with C.Nothing (no-trade (place .field) (shape .values)) e
         where
-          no-trade : (f : Field) → fieldOf (getD s at 0) (bodyAt s at (getD s at 0)) ≡ f → C.Nothing ≡ countedIn (metalOf metal) f
+          no-trade : (f : Field) → fieldOf (getD s at 0) (bodyAt s at (getD s at 0)) ≡ f → C.Nothing ≡ countedOf metal f
           no-trade (Header m marks) v = refl
           no-trade (PreviousClose instrument price) v = refl
           no-trade (Trade time instrument price lots) v = absurd (h (k ∙ tag-three (getD s at 0) _ v))
