@@ -6,7 +6,7 @@
 use mathlib.Core.Path.{_≡_, refl, sym, ap, _∙_}
 use mathlib.Core.Bool.{true, false, cond, _&&_}
 use Prim.Native.Nat.{ℕ, zero, suc, _+_, _*_, _/_, _%_, _≤_, _<_}
-use native.Mathlib.Nat.{mul-comm, mul-assoc, mul-left-comm, mul-zero, div-zero, div-eq-of-lt, div-div-eq-div-mul, add-mul-div-left, lt-div-mul-add, div-mul-le-self, div-add-mod', mod-lt, le-div-iff-mul-le, div-lt-iff-lt-mul, suc-mul, add-mul}
+use native.Mathlib.Nat.{mul-comm, mul-assoc, mul-left-comm, mul-one, mul-zero, div-zero, div-eq-of-lt, div-div-eq-div-mul, add-mul-div-left, lt-div-mul-add, div-mul-le-self, div-add-mod', mod-lt, le-div-iff-mul-le, div-lt-iff-lt-mul, suc-mul, add-mul}
 use native.Mathlib.Omega.{arith}
 use borrow.Author.Tests.{le-leb, lt-leb, ltb-true}
 use lib.Signed.{ltZ}
@@ -95,6 +95,10 @@ round-nearest n d u d>0 = ap pos (mul-comm u ((2 * n + d * u) / (2 * d * u)) ∙
 
 pub round-steps : (n d u k : ℕ) {x : Said} → (d ≡ 0 → ⊥) → k ≡ nearest (2 * n / d) u → x ≡ closeOf (pos (k * u)) → x ≡ closeOf (round (pos n) d u)
 round-steps n d u k d≢0 e h = h ∙ rw (e, round-nearest n d u (omega arith))
+
+-- steps of 1 cent are the cents themselves
+pub round-cents : (n d u k : ℕ) {x : Said} → u ≡ 1 → (d ≡ 0 → ⊥) → k ≡ nearest (2 * n / d) 1 → x ≡ closeOf (pos k) → x ≡ closeOf (round (pos n) d u)
+round-cents n d u k u≡1 d≢0 e h = rw u≡1 (round-steps n d 1 k d≢0 e (rw (mul-one k) h))
 
 -- they are not above h + u, so that the code's product fits
 pub steps-le : (h u k : ℕ) → k ≡ nearest h u → k * u ≤ h + u

@@ -3,7 +3,7 @@
 use native.Mathlib.Nat.{zero-mul, mul-zero}
 use native.Mathlib.Omega.{arith}
 use borrow.Author.Needs.{needs}
-use Rattle.cents.specs.Close.{round-none, round-above, round-steps, steps-le}
+use Rattle.cents.specs.Close.{round-none, round-above, round-steps, round-cents, steps-le}
 use Rattle.cents.proofs.rounded_sum.Statement.{statement}
 use Rattle.cents.proofs.rounded_sum.Tie as tie
 
@@ -31,14 +31,23 @@ returns-3 c = round-above _ _ _ (c .before .before .if1 .left) (c .before .if2 .
 steps-requires : tie.Need-steps-requires
 steps-requires c κs = search needs
 
-mul-close-of : tie.Need-mul-close-of
-mul-close-of c = omega (arith, steps-le _ _ _ (c .steps .ensures))
-
 close-of-requires : tie.Need-close-of-requires
 close-of-requires c κs = search needs
 
 returns-4 : tie.Need-returns-4
-returns-4 c = search round-steps
+returns-4 c = search round-cents
+
+steps-requires-2 : tie.Need-steps-requires-2
+steps-requires-2 c κs = search needs
+
+mul-close-of : tie.Need-mul-close-of
+mul-close-of c = omega (arith, steps-le _ _ _ (c .steps2 .ensures))
+
+close-of-requires-2 : tie.Need-close-of-requires-2
+close-of-requires-2 c κs = search needs
+
+returns-5 : tie.Need-returns-5
+returns-5 c = search round-steps
 
 pub rounded-sum-spec : {M : Type 1} → statement M
 rounded-sum-spec =
@@ -52,6 +61,9 @@ rounded-sum-spec =
     add-if3
     returns-3
     steps-requires
-    mul-close-of
     close-of-requires
-    returns-4)
+    returns-4
+    steps-requires-2
+    mul-close-of
+    close-of-requires-2
+    returns-5)
