@@ -26,18 +26,40 @@ use Rattle.closing.specs.Closing.{Figures, applied, lessOf, baseOf, impl
 abbrev pub totalAt : List Total → ℕ → Total
 totalAt totals i = getD totals i none
 
+-- the totals of which lots and values are lent apart
+unfoldable pub paired : List ℕ → List ℤ → List Total
+paired [] [] = []
+paired [] (v ∷ vs) = record { lots = 0; value = v } ∷ paired [] vs
+paired (l ∷ ls) [] = record { lots = l; value = pos 0 } ∷ paired ls []
+paired (l ∷ ls) (v ∷ vs) = record { lots = l; value = v } ∷ paired ls vs
+
+pub paired-at : (ls : List ℕ) (vs : List ℤ) (i : ℕ) → totalAt (paired ls vs) i ≡ record { lots = getD ls i 0; value = getD vs i (pos 0) }
+unfolding paired
+paired-at [] [] i = refl
+paired-at [] (v ∷ vs) zero = refl
+paired-at [] (v ∷ vs) (suc i) = paired-at [] vs i
+paired-at (l ∷ ls) [] zero = refl
+paired-at (l ∷ ls) [] (suc i) = paired-at ls [] i
+paired-at (l ∷ ls) (v ∷ vs) zero = refl
+paired-at (l ∷ ls) (v ∷ vs) (suc i) = paired-at ls vs i
+
 -- a sum with one instrument more
 abbrev pub addInstrument : ℕ → List ℕ → Sum → ℕ → Total → Sum
 addInstrument marks closes s i t = record { lots = s .lots + t .lots; sum = s .sum +ℤ impliedBy marks closes i (t .lots) (t .value) }
+
+-- an instrument's part, by its leg and its mark
+pub implied-is : (marks : ℕ) (closes : List ℕ) (i times : ℕ) (value : ℤ) {leg : Leg} {mark : Bool} {z : ℤ} → leg ≡ legOf i → mark ≡ marked marks i → z ≡ applied (lessOf leg mark) (pos (times * baseOf closes leg)) value → z ≡ impliedBy marks closes i times value
+unfolding impliedBy
+implied-is marks closes i times value e f g = g ∙ rw (e, f)
 
 -- the sum over the instruments first, first + 1, ..
 unfoldable pub sumBy : ℕ → List ℕ → List Total → ℕ → ℕ → Sum
 sumBy marks closes totals first zero = record { lots = 0; sum = pos 0 }
 sumBy marks closes totals first (suc n) = addInstrument marks closes (sumBy marks closes totals first n) (first + n) (totalAt totals (first + n))
 
-pub sum-next : (marks : ℕ) (closes : List ℕ) (totals : List Total) (first n : ℕ) → sumBy marks closes totals first (n + 1) ≡ addInstrument marks closes (sumBy marks closes totals first n) (first + n) (totalAt totals (first + n))
+pub sum-next : (marks : ℕ) (closes : List ℕ) (totals : List Total) (first n : ℕ) {s t : Sum} → s ≡ sumBy marks closes totals first n → t ≡ addInstrument marks closes s (first + n) (totalAt totals (first + n)) → t ≡ sumBy marks closes totals first (n + 1)
 unfolding sumBy
-sum-next marks closes totals first n = ap (sumBy marks closes totals first) (add-one n)
+sum-next marks closes totals first n e f = f ∙ rw (e, add-one n)
 
 -- ---- sizes
 
@@ -63,6 +85,10 @@ pub implied-size : (marks : ℕ) {closes : List ℕ} → Bounded closes → (i t
 unfolding impliedBy
 implied-size marks {closes} b i times value h k =
     omega (arith, applied-size (lessOf (legOf i) (marked marks i)) (pos (times * baseOf closes (legOf i))) value, mul-le-mul h (base-small b (legOf i)))
+
+-- what is lent of an instrument is within its bounds
+pub lent-small : (ls : List ℕ) (vs : List ℤ) (i : ℕ) → Small 1048576 (totalAt (paired ls vs) i) → (getD ls i 0 ≤ 10485760000) × (natAbs (getD vs i (pos 0)) ≤ 1048576000000000000)
+lent-small ls vs i small = let s = rw (paired-at ls vs i) at small in (omega (arith, s .lots), omega (arith, s .value))
 
 pub within-none : Within 0 (record { lots = 0; sum = pos 0 })
 within-none = record { lots = omega arith; sum = omega arith }

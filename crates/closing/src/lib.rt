@@ -5,11 +5,12 @@ ghost use Prim.Native.Nat.{_+_, _*_, _≤_, _<_};
 ghost use lib.IntN.{pos, natAbs};
 ghost use lib.ListN.{getD};
 ghost use Rattle.trades.specs.Laws.{AllSmall};
-ghost use Rattle.closing.specs.Closing.{applied, lessOf, baseOf, impliedBy};
-ghost use Rattle.closing.specs.Adding.{Bounded, Within, totalAt, addInstrument, sumBy};
+ghost use Rattle.market.specs.Market.{instruments};
+ghost use Rattle.closing.specs.Closing.{applied, lessOf, baseOf};
+ghost use Rattle.closing.specs.Adding.{Bounded, Within, paired, totalAt, addInstrument, sumBy};
 use market::Leg;
 use market::is_marked;
-use market::leg_of;
+use market::leg_by;
 use sheet::Day;
 use trades::Total;
 
@@ -56,7 +57,8 @@ pub struct Book {
     pub totals: [Total; 12],
 }
 
-// The closes established so far, by contract, and whether a contract was refused.
+// The closes established so far, by contract, and whether a contract was refused: what the definitions go by. The code has the two apart, so
+// that it can lend the closes.
 pub struct Known {
     pub closes: [u32; 6],
     pub stopped: bool,
@@ -79,20 +81,20 @@ pub enum Mean {
 }
 
 // An established close; 0 where there is none.
-fn close_at(known: Known, c: usize) -> u32
-    ensures { λ r. ⌜ r ≡ getD (known .closes) c 0 ⌝ }
+fn established_close(closes: &[u32], c: usize) -> u32
+    ensures { λ r. ⌜ r ≡ getD (now (closes .entry)) c 0 ⌝ }
 {
-    if c < 6 { known.closes[c] } else { 0 }
+    if c < closes.len() { closes[c] } else { 0 }
 }
 
 // The other leg's close.
-fn base(known: Known, leg: Leg) -> u32
-    ensures { λ r. ⌜ r ≡ baseOf (known .closes) leg ⌝ }
+fn other_close(closes: &[u32], leg: Leg) -> u32
+    ensures { λ r. ⌜ r ≡ baseOf (now (closes .entry)) leg ⌝ }
 {
     match leg {
         Leg::Outright => 0,
-        Leg::Over(c) => close_at(known, c),
-        Leg::Under(c) => close_at(known, c),
+        Leg::Over(c) => established_close(closes, c),
+        Leg::Under(c) => established_close(closes, c),
     }
 }
 
@@ -116,50 +118,55 @@ fn apply(times: u64, close: u32, less: bool, value: i64) -> i64
     if less { b - value } else { b + value }
 }
 
-// An instrument's part in a sum: so many times the other leg's close, with its value as quoted.
-pub fn implied_by(marks: u16, known: Known, i: u8, times: u64, value: i64) -> i64
-    requires { ⌜ Bounded (known .closes) × (times ≤ 10485760000) × (natAbs value ≤ 1048576000000000000) ⌝ }
-    ensures { λ r. ⌜ r ≡ impliedBy marks (known .closes) i times value ⌝ }
+// An instrument's part in a sum, by its leg and its mark: so many times the other leg's close, with its value as quoted.
+pub fn implied_price(closes: &[u32], leg: Leg, mark: bool, times: u64, value: i64) -> i64
+    requires { ⌜ Bounded (now closes) × (times ≤ 10485760000) × (natAbs value ≤ 1048576000000000000) ⌝ }
+    ensures { λ r. ⌜ r ≡ applied (lessOf leg mark) (pos (times * baseOf (now (closes .entry)) leg)) value ⌝ }
 {
-    let leg = leg_of(i);
-    let close = base(known, leg);
-    apply(times, close, less(leg, is_marked(marks, i)), value)
+    let close = other_close(closes, leg);
+    apply(times, close, less(leg, mark), value)
 }
 
-// The total of an instrument's trades.
-fn total_at(book: Book, i: u8) -> Total
-    ensures { λ r. ⌜ r ≡ totalAt (book .totals) i ⌝ }
+// A sum with one instrument more, by the rows, the totals and the closes lent.
+fn with_instrument(
+    marks: u16,
+    legs: &[[u8; 2]; 12],
+    lots: &[u64; 12],
+    values: &[i64; 12],
+    closes: &[u32],
+    s: Sum,
+    i: u8,
+) -> Sum
+    requires { ⌜ (now legs ≡ instruments) × AllSmall 1048576 (paired (now lots) (now values)) × Bounded (now closes) × Within 3 s × (i < 12) ⌝ }
+    ensures { λ r. ⌜ r ≡ addInstrument marks (now (closes .entry)) s i (totalAt (paired (now (lots .entry)) (now (values .entry))) i) ⌝ }
 {
     let k = i as usize;
-    if k < 12 {
-        book.totals[k]
-    } else {
-        Total { lots: 0, value: 0 }
-    }
-}
-
-// A sum with one instrument more.
-fn add_instrument(book: Book, known: Known, s: Sum, i: u8) -> Sum
-    requires { ⌜ AllSmall 1048576 (book .totals) × Bounded (known .closes) × Within 3 s ⌝ }
-    ensures { λ r. ⌜ r ≡ addInstrument (book .marks) (known .closes) s i (totalAt (book .totals) i) ⌝ }
-{
-    let t = total_at(book, i);
+    let times = lots[k];
+    let leg = leg_by(legs[k]);
     let sum = s.sum;
     Sum {
-        lots: s.lots + t.lots,
-        sum: sum + implied_by(book.marks, known, i, t.lots, t.value),
+        lots: s.lots + times,
+        sum: sum + implied_price(closes, leg, is_marked(marks, i), times, values[k]),
     }
 }
 
 // The sum over the instruments from first on.
-pub fn sum_of(book: Book, known: Known, first: u8, count: u8) -> Sum
-    requires { ⌜ AllSmall 1048576 (book .totals) × Bounded (known .closes) × (count ≤ 4) × (first ≤ 12) ⌝ }
-    ensures { λ r. ⌜ r ≡ sumBy (book .marks) (known .closes) (book .totals) first count ⌝ }
+pub fn vwap_sum(
+    marks: u16,
+    legs: &[[u8; 2]; 12],
+    lots: &[u64; 12],
+    values: &[i64; 12],
+    closes: &[u32],
+    first: u8,
+    count: u8,
+) -> Sum
+    requires { ⌜ (now legs ≡ instruments) × AllSmall 1048576 (paired (now lots) (now values)) × Bounded (now closes) × (count ≤ 4) × (first + count ≤ 12) ⌝ }
+    ensures { λ r. ⌜ r ≡ sumBy marks (now (closes .entry)) (paired (now (lots .entry)) (now (values .entry))) first count ⌝ }
 {
     let mut s = Sum { lots: 0, sum: 0 };
     let mut k: u8 = 0;
     while k < count {
-        s = add_instrument(book, known, s, first + k);
+        s = with_instrument(marks, legs, lots, values, closes, s, first + k);
         k += 1;
     }
     s

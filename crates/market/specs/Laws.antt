@@ -7,13 +7,12 @@ use mathlib.Core.List.{[]}
 use native.Mathlib.Nat.{div-eq-of-lt, pow-le-pow-right, lt-of-lt-of-le}
 use native.Mathlib.Decide.{decLt}
 use native.Mathlib.Omega.{arith}
-use borrow.Author.Tests.{le-leb, lt-leb, lt-ltb, le-ltb, eq-eqb, ne-eqb, leb-true, ltb-true}
+use borrow.Author.Tests.{le-leb, lt-leb, lt-ltb, le-ltb, leb-true, ltb-true}
 use lib.Dec.{leb, ltb, eqb}
 use lib.ListN.{getD, List·getD-eq-default}
 use Rattle.market.specs.declared.Metal.{Metal}
-use Rattle.market.specs.declared.Contract.{Contract}
 use Rattle.market.specs.declared.Leg.the-variants.{Outright}
-use Rattle.market.specs.Market.{metals, metalBy, metalOf, contracts, contractBy, contractOf, instruments, rowLeg, legOf, startOf, stepOf, windowLength, window-length, inWindow, marked}
+use Rattle.market.specs.Market.{metals, metalBy, metalOf, contracts, contractBy, contractOf, instruments, rowLeg, legOf, startOf, windowLength, window-length, inWindow, marked}
 
 -- a metal's row as the code counts, and a metal with no row
 pub metal-row : (m : ℕ) → 0 < m → metalBy (getD metals (m - 1) []) ≡ metalOf m
@@ -39,15 +38,6 @@ startIn row i = cond (eqb i 0) (row .anchor) (row .spread)
 pub start-in : (metal i : ℕ) → startIn (metalOf metal) i ≡ startOf metal i
 unfolding startIn startOf
 start-in metal i = refl
-
--- a contract's step: 0 in its row, and another
-pub step-by-metal : (metal c : ℕ) (row : Contract) (m : Metal) → row ≡ contractOf c → m ≡ metalOf metal → row .step ≡ 0 → m .step ≡ stepOf metal c
-unfolding stepOf
-step-by-metal metal c row m e f h = simp (← e, ← f, eq-eqb (row .step) 0 h)
-
-pub step-own : (metal c : ℕ) (row : Contract) → row ≡ contractOf c → (row .step ≡ 0 → ⊥) → row .step ≡ stepOf metal c
-unfolding stepOf
-step-own metal c row e h = simp (← e, ne-eqb (row .step) 0 h)
 
 -- a time before the start, and one from it on
 pub window-before : (start time : ℕ) → time < start → inWindow start time ≡ false

@@ -1,6 +1,8 @@
 // Document 01's constant tables by metal, by contract and by instrument, the windows and the marks. Hosts don't call it.
 ghost use mathlib.Core.Path.{_≡_};
-ghost use Rattle.market.specs.Market.{metalOf, contractOf, legOf, startOf, stepOf, inWindow, marked};
+ghost use mathlib.Core.Bool.{cond};
+ghost use lib.Dec.{eqb};
+ghost use Rattle.market.specs.Market.{metalOf, contracts, contractBy, contractOf, instruments, rowLeg, legOf, startOf, stepOf, inWindow, marked};
 ghost use Rattle.market.specs.Laws.{startIn};
 
 // A metal's spread start and anchor start, in milliseconds of the day, and its 3M step, in cents.
@@ -48,20 +50,20 @@ const CONTRACTS: [[u8; 4]; 6] = [
 ];
 
 // The contracts by their place in pricing order.
-const THREE_M: usize = 0;
+const THREE_M: u8 = 0;
 
-const M3: usize = 1;
+const M3: u8 = 1;
 
-const M2: usize = 2;
+const M2: u8 = 2;
 
-const M4: usize = 3;
+const M4: u8 = 3;
 
-const M1: usize = 4;
+const M1: u8 = 4;
 
-const CASH: usize = 5;
+const CASH: u8 = 5;
 
 // The instruments, 0 to 11: A and B of each A-B; the outright has 3M for both.
-const INSTRUMENTS: [[usize; 2]; 12] = [
+const INSTRUMENTS: [[u8; 2]; 12] = [
     [THREE_M, THREE_M],
     [M3, THREE_M],
     [M2, THREE_M],
@@ -97,25 +99,54 @@ pub fn metal_of(metal: u8) -> Metal
     }
 }
 
+// The tables by contract and by instrument, for a caller that looks up more than one row: a constant is laid anew at each use.
+pub fn contract_rows() -> [[u8; 4]; 6]
+    ensures { λ r. ⌜ r ≡ contracts ⌝ }
+{
+    CONTRACTS
+}
+
+pub fn instrument_rows() -> [[u8; 2]; 12]
+    ensures { λ r. ⌜ r ≡ instruments ⌝ }
+{
+    INSTRUMENTS
+}
+
+// The cells of a contract's row by name.
+pub fn contract_by(row: [u8; 4]) -> Contract
+    ensures { λ r. ⌜ r ≡ contractBy row ⌝ }
+{
+    Contract {
+        first: row[0],
+        past: row[1],
+        twap: row[2],
+        step: row[3],
+    }
+}
+
 // The row of a contract, 0 to 5 in pricing order; of any other contract a row of zeros.
 pub fn contract_of(contract: usize) -> Contract
     ensures { λ r. ⌜ r ≡ contractOf contract ⌝ }
 {
     if contract < 6 {
-        let row = CONTRACTS[contract];
-        return Contract {
-            first: row[0],
-            past: row[1],
-            twap: row[2],
-            step: row[3],
-        };
+        return contract_by(CONTRACTS[contract]);
     }
-    Contract {
-        first: 0,
-        past: 0,
-        twap: 0,
-        step: 0,
+    contract_by([0; 4])
+}
+
+// The leg that an instrument's row says: of A and B the contract that is priced first is the other leg.
+pub fn leg_by(row: [u8; 2]) -> Leg
+    ensures { λ r. ⌜ r ≡ rowLeg row ⌝ }
+{
+    let a = row[0];
+    let b = row[1];
+    if b < a {
+        return Leg::Over(b as usize);
     }
+    if a < b {
+        return Leg::Under(a as usize);
+    }
+    Leg::Outright
 }
 
 // The leg of an instrument, 0 to 11; any other instrument is as the outright.
@@ -123,17 +154,8 @@ pub fn leg_of(instrument: u8) -> Leg
     ensures { λ r. ⌜ r ≡ legOf instrument ⌝ }
 {
     let i = instrument as usize;
-    if 12 <= i {
-        return Leg::Outright;
-    }
-    let row = INSTRUMENTS[i];
-    let a = row[0];
-    let b = row[1];
-    if b < a {
-        return Leg::Over(b);
-    }
-    if a < b {
-        return Leg::Under(a);
+    if i < 12 {
+        return leg_by(INSTRUMENTS[i]);
     }
     Leg::Outright
 }
@@ -157,17 +179,23 @@ pub fn start_of(metal: u8, instrument: u8) -> u32
     start_in(metal_of(metal), instrument)
 }
 
-// The step that a contract rounds to: 3M's by the metal, every other contract's 1 cent; a contract above 5 has the metal's.
-pub fn step_of(metal: u8, contract: usize) -> u32
-    ensures { λ r. ⌜ r ≡ stepOf metal contract ⌝ }
+// The step that the last cell of a contract's row says: its own, or the metal's where that is 0.
+pub fn step_by(metal: u8, step: u8) -> u32
+    ensures { λ r. ⌜ r ≡ cond (eqb step 0) (metalOf metal .step) step ⌝ }
 {
-    let row = contract_of(contract);
-    let step = row.step;
     if step == 0 {
         let by_metal = metal_of(metal);
         return by_metal.step;
     }
     step as u32
+}
+
+// The step that a contract rounds to: 3M's by the metal, every other contract's 1 cent; a contract above 5 has the metal's.
+pub fn step_of(metal: u8, contract: usize) -> u32
+    ensures { λ r. ⌜ r ≡ stepOf metal contract ⌝ }
+{
+    let row = contract_of(contract);
+    step_by(metal, row.step)
 }
 
 // Whether a time lies in the window of a start: the start is in, start + 300,000 is out.

@@ -8,7 +8,7 @@ use native.Mathlib.Omega.{arith}
 use lib.Dec.{leb, leb→le}
 use lib.IntN.{ℤ, natAbs}
 use lib.ListN.{getD, length}
-use Rattle.market.specs.Market.{contractOf, startOf, stepOf}
+use Rattle.market.specs.Market.{contracts, contractOf, instruments, startOf, stepOf}
 use Rattle.market.specs.Table.{below}
 use Rattle.market.specs.Rules.{ruled}
 use Rattle.trades.specs.Trades.{totalOf, totalsOf}
@@ -26,7 +26,7 @@ use Rattle.closing.specs.declared.Mean.the-variants.{Of}
 use Rattle.closing.specs.declared.Book.{Book}
 use Rattle.closing.specs.declared.Sum.{Sum}
 use Rattle.closing.specs.Closing.{Figures, figuresOf, twapBy, lotsOf, meanOf, answered, rowAnswer}
-use Rattle.closing.specs.Adding.{Tallied, sumBy, sum-is}
+use Rattle.closing.specs.Adding.{Tallied, paired, sumBy, sum-is}
 
 -- the sheet is accepted, and the book has the totals of its trades by the book's metal
 pub record Ready (s : List ℕ) (book : Book) : Type 0 where
@@ -37,12 +37,23 @@ pub record Ready (s : List ℕ) (book : Book) : Type 0 where
 abbrev pub figuresBy : List ℕ → Book → Figures
 figuresBy s book = figuresOf (book .metal) (book .marks) (fieldsOf s)
 
-abbrev pub spanAt : List ℕ → Book → ℕ → Span
-spanAt s book i = spanOf i (startOf (book .metal) i) (fieldsOf s)
+-- an instrument's indicator over its window
+abbrev pub spanIn : List ℕ → ℕ → ℕ → Span
+spanIn s metal i = spanOf i (startOf metal i) (fieldsOf s)
 
 -- the mean, by the sum over the VWAP instruments
-abbrev pub meanBy : List ℕ → Book → List ℕ → ℕ → Sum → Mean
-meanBy s book closes i t = cond (leb 5 (t .lots)) (Of Vwap (t .sum) (t .lots)) (twapBy (book .marks) closes i (spanAt s book i))
+abbrev pub meanIn : List ℕ → ℕ → ℕ → List ℕ → ℕ → Sum → Mean
+meanIn s metal marks closes i t = cond (leb 5 (t .lots)) (Of Vwap (t .sum) (t .lots)) (twapBy marks closes i (spanIn s metal i))
+
+-- the book of which lots and values are lent apart
+abbrev pub bookOf : ℕ → ℕ → List ℕ → List ℤ → Book
+bookOf metal marks lots values = record { metal = metal; marks = marks; totals = paired lots values }
+
+-- what is lent to price a contract: document 01's rows, and the totals of the sheet's trades
+pub record Lent (s : List ℕ) (metal marks : ℕ) (table spreads : List (List ℕ)) (lots : List ℕ) (values : List ℤ) : Type 0 where
+  pub ready : Ready s (bookOf metal marks lots values)
+  pub rows : table ≡ contracts
+  pub legs : spreads ≡ instruments
 
 -- ---- what follows
 
@@ -79,7 +90,7 @@ unfolding contractOf
 few c h = leb→le _ _ (below (λ c. leb (contractOf c .past - contractOf c .first) 4) 6 c tt h)
 
 -- the code's sum, mean and answer of a contract are the definition's
-pub row-is : (s : List ℕ) (book : Book) → Ready s book → (closes : List ℕ) (c : ℕ) → c < 6 → {t : Sum} {m : Mean} → t ≡ sumBy (book .marks) closes (book .totals) (contractOf c .first) (contractOf c .past - contractOf c .first) → m ≡ meanBy s book closes (contractOf c .twap) t → answered (stepOf (book .metal) c) (t .lots) m ≡ rowAnswer (figuresBy s book) closes c
+pub row-is : (s : List ℕ) (book : Book) → Ready s book → (closes : List ℕ) (c : ℕ) → c < 6 → {t : Sum} {m : Mean} → t ≡ sumBy (book .marks) closes (book .totals) (contractOf c .first) (contractOf c .past - contractOf c .first) → m ≡ meanIn s (book .metal) (book .marks) closes (contractOf c .twap) t → answered (stepOf (book .metal) c) (t .lots) m ≡ rowAnswer (figuresBy s book) closes c
 unfolding rowAnswer figuresOf
 row-is s book r closes c h e g =
     let row = ruled c h in

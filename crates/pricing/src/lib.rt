@@ -2,46 +2,54 @@
 // ask of their caller, `answers` has from an accepted sheet.
 ghost use mathlib.Core.Path.{_≡_};
 ghost use Prim.Native.Nat.{_<_};
-ghost use Rattle.closing.specs.Closing.{twapBy, answered, rowAnswer, answerBy};
+ghost use Rattle.sheet.specs.Fields.{fieldsOf};
+ghost use Rattle.twap.specs.Span.{Accepted};
+ghost use Rattle.closing.specs.Closing.{figuresOf, twapBy, answered, rowAnswer, answerBy};
 ghost use Rattle.closing.specs.Adding.{Bounded};
 ghost use Rattle.closing.specs.Says.{answerSays};
-ghost use Rattle.pricing.specs.Ready.{Ready, figuresBy, spanAt, meanBy};
+ghost use Rattle.pricing.specs.Ready.{Lent, spanIn, meanIn};
 use cents::Rounded;
 use cents::rounded_close;
 use closing::Answer;
-use closing::Book;
-use closing::Known;
 use closing::Mean;
 use closing::Method;
 use closing::Sum;
-use closing::implied_by;
-use closing::sum_of;
+use closing::implied_price;
+use closing::vwap_sum;
 use market::WINDOW;
-use market::contract_of;
+use market::contract_by;
+use market::is_marked;
+use market::leg_of;
 use market::start_of;
-use market::step_of;
+use market::step_by;
 use twap::Summed;
 use twap::span_of;
 
 // The mean of the indicator over the window, applied to the other leg's close.
-fn twap_mean(sheet: &[u8], book: Book, known: Known, i: u8) -> Mean
-    requires { ⌜ Ready (now sheet) book × Bounded (known .closes) × (i < 12) ⌝ }
-    ensures { λ r. ⌜ r ≡ twapBy (book .marks) (known .closes) i (spanAt (now (sheet .entry)) book i) ⌝ }
+fn indicator_mean(sheet: &[u8], metal: u8, marks: u16, closes: &[u32], i: u8) -> Mean
+    requires { ⌜ Accepted (now sheet) × Bounded (now closes) × (i < 12) ⌝ }
+    ensures { λ r. ⌜ r ≡ twapBy marks (now (closes .entry)) i (spanIn (now (sheet .entry)) metal i) ⌝ }
 {
-    match span_of(sheet, i, start_of(book.metal, i)) {
+    match span_of(sheet, i, start_of(metal, i)) {
         Summed::Missing => Mean::Missing,
         Summed::Sum(total) => Mean::Of {
             method: Method::Twap,
-            sum: implied_by(book.marks, known, i, WINDOW as u64, total.cents),
+            sum: implied_price(
+                closes,
+                leg_of(i),
+                is_marked(marks, i),
+                WINDOW as u64,
+                total.cents,
+            ),
             weight: WINDOW as u64,
         },
     }
 }
 
 // VWAP at 5 lots or more, TWAP below.
-fn mean_of(sheet: &[u8], book: Book, known: Known, i: u8, s: Sum) -> Mean
-    requires { ⌜ Ready (now sheet) book × Bounded (known .closes) × (i < 12) ⌝ }
-    ensures { λ r. ⌜ r ≡ meanBy (now (sheet .entry)) book (known .closes) i s ⌝ }
+fn mean_by_lots(sheet: &[u8], metal: u8, marks: u16, closes: &[u32], i: u8, s: Sum) -> Mean
+    requires { ⌜ Accepted (now sheet) × Bounded (now closes) × (i < 12) ⌝ }
+    ensures { λ r. ⌜ r ≡ meanIn (now (sheet .entry)) metal marks (now (closes .entry)) i s ⌝ }
 {
     let lots = s.lots;
     if 5 <= lots {
@@ -51,7 +59,7 @@ fn mean_of(sheet: &[u8], book: Book, known: Known, i: u8, s: Sum) -> Mean
             weight: lots,
         }
     } else {
-        twap_mean(sheet, book, known, i)
+        indicator_mean(sheet, metal, marks, closes, i)
     }
 }
 
@@ -77,23 +85,52 @@ fn rounded(mean: Mean, lots: u64, step: u32) -> Answer
 }
 
 // One contract, by its row and the closes before it.
-fn row_answer(sheet: &[u8], book: Book, known: Known, c: usize) -> Answer
-    requires { ⌜ Ready (now sheet) book × Bounded (known .closes) × (c < 6) ⌝ }
-    ensures { λ r. ⌜ answerSays r ≡ rowAnswer (figuresBy (now (sheet .entry)) book) (known .closes) c ⌝ }
+fn answer_by_row(
+    sheet: &[u8],
+    metal: u8,
+    marks: u16,
+    rows: &[[u8; 4]; 6],
+    legs: &[[u8; 2]; 12],
+    lots: &[u64; 12],
+    values: &[i64; 12],
+    closes: &[u32],
+    c: usize,
+) -> Answer
+    requires { ⌜ Lent (now sheet) metal marks (now rows) (now legs) (now lots) (now values) × Bounded (now closes) × (c < 6) ⌝ }
+    ensures { λ r. ⌜ answerSays r ≡ rowAnswer (figuresOf metal marks (fieldsOf (now (sheet .entry)))) (now (closes .entry)) c ⌝ }
 {
-    let row = contract_of(c);
-    let s = sum_of(book, known, row.first, row.past - row.first);
-    let mean = mean_of(sheet, book, known, row.twap, s);
-    rounded(mean, s.lots, step_of(book.metal, c))
+    let row = contract_by(rows[c]);
+    let s = vwap_sum(
+        marks,
+        legs,
+        lots,
+        values,
+        closes,
+        row.first,
+        row.past - row.first,
+    );
+    let mean = mean_by_lots(sheet, metal, marks, closes, row.twap, s);
+    rounded(mean, s.lots, step_by(metal, row.step))
 }
 
-// The answer of a contract, with what is known before it.
-pub fn price(sheet: &[u8], book: Book, known: Known, c: usize) -> Answer
-    requires { ⌜ Ready (now sheet) book × Bounded (known .closes) × (c < 6) ⌝ }
-    ensures { λ r. ⌜ answerSays r ≡ answerBy (figuresBy (now (sheet .entry)) book) known c ⌝ }
+// The answer of a contract, with what is known before it. The tables, the totals and the closes are lent: copies cost more than the pricing.
+pub fn price_one(
+    sheet: &[u8],
+    metal: u8,
+    marks: u16,
+    rows: &[[u8; 4]; 6],
+    legs: &[[u8; 2]; 12],
+    lots: &[u64; 12],
+    values: &[i64; 12],
+    closes: &[u32],
+    stopped: bool,
+    c: usize,
+) -> Answer
+    requires { ⌜ Lent (now sheet) metal marks (now rows) (now legs) (now lots) (now values) × Bounded (now closes) × (c < 6) ⌝ }
+    ensures { λ r. ⌜ answerSays r ≡ answerBy (figuresOf metal marks (fieldsOf (now (sheet .entry)))) (record { closes = now (closes .entry); stopped = stopped }) c ⌝ }
 {
-    if known.stopped {
+    if stopped {
         return Answer::NotReached;
     }
-    row_answer(sheet, book, known, c)
+    answer_by_row(sheet, metal, marks, rows, legs, lots, values, closes, c)
 }
