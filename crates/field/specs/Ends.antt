@@ -12,7 +12,7 @@ use lib.IntN.{ℤ, pos, negsuc, negℤ}
 use lib.Signed.{leZ}
 use Rattle.field.specs.declared.Price.{Price}
 use Rattle.field.specs.declared.Field.the-variants.{Quote}
-use Rattle.field.specs.Judging.{fine, both, pick, centsWithin, instrumentRight, priceRight, sidesRight, sidePricesRight, ordered, judge}
+use Rattle.field.specs.Judging.{fine, both, pick, centsWithin, instrumentRight, priceRight, judge}
 use Rattle.field.specs.Laws.{clash, both-true, both-holds}
 use Rattle.field.specs.Sound.{SoundQuote, sound, judge-sound}
 

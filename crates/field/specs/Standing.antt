@@ -3,7 +3,7 @@
 --     Stood     so the head earns no number, and the field is that of the body
 -- Assumes nothing.
 use Prim.Native.Nat.{ℕ, _+_, _<_, _≤_}
-use mathlib.Core.Path.{_≡_, refl, sym, ap, _∙_}
+use mathlib.Core.Path.{_≡_, sym, _∙_}
 use mathlib.Core.Bool.{Bool, true, false}
 use mathlib.Core.List.{List}
 use native.Mathlib.Omega.{arith}
@@ -15,7 +15,7 @@ use Rattle.wire.specs.Big.{be2At, be4At}
 use Rattle.field.specs.declared.Field.{Field}
 use Rattle.field.specs.Judging.{both, judge}
 use Rattle.field.specs.Layout.{tagRight, lengthOf, sizeOf, fieldOf}
-use Rattle.field.specs.Said.{Said, gives, settled}
+use Rattle.field.specs.Said.{gives, settled}
 use Rattle.field.specs.Reading.{remaining, bodyAt, shapeAt, readField}
 use Rattle.field.specs.Laws.{both-true, Headed, head-fine, shape-fine, read-judged}
 

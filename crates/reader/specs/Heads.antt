@@ -16,7 +16,7 @@ use Rattle.field.specs.declared.Field.{Field}
 use Rattle.field.specs.Judging.{fine, judge}
 use Rattle.field.specs.Layout.{tagRight, sizeOf, endOf, fieldOf}
 use Rattle.field.specs.Said.{Said, gives, refuses, settled}
-use Rattle.field.specs.Reading.{remaining, taggedNumber, headNumber, shapeAt, readField}
+use Rattle.field.specs.Reading.{remaining, taggedNumber, headNumber, readField}
 use Rattle.field.specs.Laws.{headed, head-short, head-there, part-is, shape-not, read-refused, unless-failed, within-true, settled-fine}
 use Rattle.field.specs.Standing.{Stood, stood-read}
 

@@ -8,23 +8,22 @@ use mathlib.Core.Bool.{Bool, true, false, cond}
 use mathlib.Core.List.{List}
 use native.Mathlib.Omega.{arith}
 use borrow.Author.Tests.{le-leb, eq-eqb}
-use lib.Dec.{leb, eqb}
+use lib.Dec.{leb}
 use lib.ListN.{length, getD, take, drop}
 use mir.Syntax.{w64}
 use mir.Val.{Fits}
 use Rattle.wire.specs.Big.{be2At, be4At}
 use Rattle.field.specs.declared.Field.{Field}
-use Rattle.field.specs.declared.Field.the-variants.{Header, PreviousClose, Trade, Quote, End}
 use Rattle.field.specs.Said.{gives}
 use Rattle.field.specs.Judging.{fine, both, judge}
-use Rattle.field.specs.Layout.{sizeOf, fieldOf}
-use Rattle.field.specs.Reading.{shapeAt}
+use Rattle.field.specs.Layout.{lengthOf, sizeOf, fieldOf}
+use Rattle.field.specs.Reading.{bodyAt, shapeAt}
 use Rattle.field.specs.Laws.{both-true, unless-passed}
 use Rattle.field.specs.Standing.{stands, stands-whole, Stood, stood, stood-shape, fieldAt, body-number, body-first, body-second}
 use Rattle.right_field.specs.Right.{untimed, rightAt, Right, right, Timely, timed}
 use Rattle.admit.specs.declared.Progress.{Progress}
-use Rattle.admit.specs.Admitting.{start, previousPlaced, placed, countNumber, afterHeader, afterPrevious, afterRecord, Step, goes, ends, admitted, admit}
-use Rattle.admit.specs.Laws.{Passed, passed-taken}
+use Rattle.admit.specs.Admitting.{start, previousPlaced, placed, countNumber, afterHeader, afterPrevious, afterRecord, goes, admitted, admit}
+use Rattle.admit.specs.Laws.{passed-taken}
 use Rattle.sheet.specs.Judgement.{Verdict, atEnd, judgeSheet}
 use Rattle.sheet.specs.Walk.{left, shape-grows}
 use Rattle.sheet.specs.Track.{OnTrack, at-start, on-room, on-last, on-next}
@@ -98,25 +97,29 @@ pub record Recorded (s : List ℕ) (at size : ℕ) : Type 0 where
   pub shape : shapeAt s at ≡ gives field (at + size)
   pub next : (p : Progress) → p .time ≤ be4At s (at + 3) → be4At s (at + 3) ≤ 86399999 → 1 ≤ p .stage → p .count < 1048576 → admit p field ≡ goes (afterRecord p (be4At s (at + 3)))
 
+-- of a tag whose field has its place behind the header, counts nothing and begins with its time
+recorded-at : (s : List ℕ) (at tag : ℕ) → Right s at tag → 4 ≤ lengthOf tag
+    → ((p : Progress) → placed p (fieldAt s at tag) ≡ leb 1 (p .stage))
+    → ((p : Progress) → countNumber p (fieldAt s at tag) ≡ fine)
+    → ((p : Progress) → admitted p (fieldAt s at tag) ≡ goes (afterRecord p (be4At (bodyAt s at tag) 0)))
+    → ((least : ℕ) → least ≤ be4At (bodyAt s at tag) 0 → be4At (bodyAt s at tag) 0 ≤ 86399999 → Timely least (fieldAt s at tag))
+    → Recorded s at (sizeOf tag)
+recorded-at s at tag r long place none after timely =
+    let f = fieldAt s at tag in
+    let same = body-number s at (lengthOf tag) long in
+    record {
+      field = f;
+      shape = stood-shape s at tag (r .stands-there);
+      next = λ p l d stage room. takes p f room (timed (p .time) f (r .values) (timely (p .time) (rw same l) (rw same d))) (place p ∙ le-leb 1 (p .stage) stage) (none p) ∙ after p ∙ ap (λ (t : ℕ). goes (afterRecord p t)) same;
+    }
+
 trade-recorded : (s : List ℕ) (at : ℕ) → Right s at 3 → Recorded s at 14
 unfolding fieldOf placed countNumber admitted
-trade-recorded s at r =
-    let same = body-number s at 11 (omega arith) in
-    record {
-      field = fieldAt s at 3;
-      shape = stood-shape s at 3 (r .stands-there);
-      next = λ p l d stage room. takes p (fieldAt s at 3) room (timed (p .time) (fieldAt s at 3) (r .values) (rw same (l, d))) (le-leb 1 (p .stage) stage) refl ∙ ap (λ (t : ℕ). goes (afterRecord p t)) same;
-    }
+trade-recorded s at r = recorded-at s at 3 r (omega arith) (λ p. refl) (λ p. refl) (λ p. refl) (λ least l d. (l, d))
 
 quote-recorded : (s : List ℕ) (at : ℕ) → Right s at 4 → Recorded s at 17
 unfolding fieldOf placed countNumber admitted
-quote-recorded s at r =
-    let same = body-number s at 14 (omega arith) in
-    record {
-      field = fieldAt s at 4;
-      shape = stood-shape s at 4 (r .stands-there);
-      next = λ p l d stage room. takes p (fieldAt s at 4) room (timed (p .time) (fieldAt s at 4) (r .values) (rw same (l, d))) (le-leb 1 (p .stage) stage) refl ∙ ap (λ (t : ℕ). goes (afterRecord p t)) same;
-    }
+quote-recorded s at r = recorded-at s at 4 r (omega arith) (λ p. refl) (λ p. refl) (λ p. refl) (λ least l d. (l, d))
 
 recorded : (s : List ℕ) (at : ℕ) {size : ℕ} → size ≡ recordSize s at → (size ≡ 0 → ⊥) → Recorded s at size
 unfolding recordSize both

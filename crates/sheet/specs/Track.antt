@@ -3,8 +3,8 @@
 --     on-..      where a field stands
 --     at-..      the same with the facts as they stand in the code: what a call ensures of its result, and the case that the result was found to be
 -- Assumes nothing.
-use Prim.Native.Nat.{ℕ, _+_, _<_, _≤_}
-use mathlib.Core.Path.{_≡_, refl, sym, _∙_, ap}
+use Prim.Native.Nat.{ℕ, _<_, _≤_}
+use mathlib.Core.Path.{_≡_, sym, _∙_, ap}
 use mathlib.Core.List.{List}
 use native.Mathlib.Omega.{arith}
 use borrow.Author.Tests.{le-leb, lt-leb}
@@ -21,7 +21,7 @@ use Rattle.admit.specs.Admitting.{start, Step, goes, ends, stops, admit, admitS
 use Rattle.admit.specs.Laws.{went-counts}
 use Rattle.sheet.specs.Fields.{readsAt}
 use Rattle.sheet.specs.Judgement.{Verdict, refuses-at, atEnd, after, judgeReads, judgeSheet}
-use Rattle.sheet.specs.Walk.{shape-grows, reads-gave, reads-stop, read-gave, read-stopped, less-read}
+use Rattle.sheet.specs.Walk.{shape-grows, reads-gave, reads-stop, read-gave, read-stopped}
 
 pub record OnTrack (s : List ℕ) (at : ℕ) (p : Progress) : Type 0 where
   pub small : length s ≤ 1048576
