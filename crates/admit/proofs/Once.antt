@@ -1,6 +1,7 @@
 -- Any two results that a function's contract permits are equal. Assumes nothing.
-use Rattle.promise.specs.Once.{Once, once}
-use Rattle.admit.specs.Admitting.{admit-once}
+use Rattle.promise.specs.Once.{Once}
+use Rattle.promise.specs.laws.Once.{once}
+use Rattle.admit.specs.laws.Admitting.{admit-once}
 use Rattle.admit.proofs.begin.Reads as begin
 use Rattle.admit.proofs.begin.Kinds as beginK
 use Rattle.admit.proofs.admit.Reads as admit

@@ -1,10 +1,7 @@
--- Document 01, "One header first; then previous closes with rising instrument; then trades and quotes with times that never fall; then one
--- end", and the order "5, then 6 to 12": whether a field may come next, and what is kept behind it.
+-- SHEET 2, the order of fields, 5 and 12 of SHEET 4: whether a field may come next, and what is kept behind it.
 use Prim.Native.Nat.{ℕ, _+_}
 use mathlib.Core.Bool.{Bool, cond}
-use mathlib.Core.Path.{_≡_, refl}
 use lib.Dec.{leb, ltb, eqb}
-use Rattle.promise.specs.Once.{through}
 use Rattle.field.specs.declared.Field.{Field}
 use Rattle.field.specs.declared.Field.the-variants.{Header, PreviousClose, Trade, Quote, End}
 use Rattle.field.specs.Judging.{fine, unless, also, both, judge}
@@ -16,7 +13,7 @@ use Rattle.admit.specs.declared.Admitted.the-variants as A
 abbrev pub start : Progress
 start = record { stage = 0; instrument = 0; time = 0; count = 0; metal = 0; marks = 0 }
 
--- 5: one header first; then previous closes, each instrument above the one before; then trades and quotes; then one end
+-- SHEET 2: one header, first; then previous closes, each with a higher instrument than the one before; then trades and quotes; then one end. Else 5
 unfoldable pub previousPlaced : Progress → ℕ → Bool
 previousPlaced p instrument = both (eqb (p .stage) 1) (leb (p .instrument) instrument)
 
@@ -27,7 +24,7 @@ placed p (Trade time instrument price lots) = leb 1 (p .stage)
 placed p (Quote time instrument sides bid offer) = leb 1 (p .stage)
 placed p (End count) = leb 1 (p .stage)
 
--- 12: the end's count is that of the fields before it
+-- SHEET 3, count: the number of fields before the end. Else 12
 unfoldable pub countNumber : Progress → Field → ℕ
 countNumber p (Header metal marks) = fine
 countNumber p (PreviousClose instrument price) = fine
@@ -35,7 +32,7 @@ countNumber p (Trade time instrument price lots) = fine
 countNumber p (Quote time instrument sides bid offer) = fine
 countNumber p (End count) = unless (eqb count (p .count)) 12 fine
 
--- 5, then 6 to 11 with the time before as the least, then 12. A sheet with as many fields before as it may have bytes is too long: 1, before all
+-- SHEET 5: 5, then 6 to 11 with the time before as the least, then 12. A sheet with as many fields before as it may have bytes is too long: 1, before all
 unfoldable pub admitNumber : Progress → Field → ℕ
 admitNumber p f =
     unless (ltb (p .count) 1048576) 1
@@ -68,22 +65,9 @@ admitted p (End count) = ends
 unfoldable pub admit : Progress → Field → Step
 admit p f = cond (eqb (admitNumber p f) fine) (admitted p f) (stops (admitNumber p f))
 
--- ---- what each answer of the code says; no two say the same
+-- ---- what each answer of the code says
 
 abbrev pub admitSays : Admitted → Step
 admitSays (A.Next q) = goes q
 admitSays A.Ended = ends
 admitSays (A.Refused number) = stops number
-
-abbrev admit-of : Step → Admitted
-admit-of (goes q) = A.Next q
-admit-of ends = A.Ended
-admit-of (stops number) = A.Refused number
-
-admit-back : (r : Admitted) → admit-of (admitSays r) ≡ r
-admit-back (A.Next q) = refl
-admit-back A.Ended = refl
-admit-back (A.Refused number) = refl
-
-pub admit-once : {d : Step} {x y : Admitted} → admitSays x ≡ d → admitSays y ≡ d → x ≡ y
-admit-once p q = through admitSays admit-of admit-back p q

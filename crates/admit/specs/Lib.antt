@@ -1,2 +1,2 @@
 pub mod Admitting
-pub mod Laws
+pub mod laws

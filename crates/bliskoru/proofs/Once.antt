@@ -1,6 +1,7 @@
 -- Any two outcomes that a function's contract permits are equal: the answer, and all lent memory. Assumes nothing.
 use denote.Ref.{now}
-use Rattle.promise.specs.Once.{Once, once}
+use Rattle.promise.specs.Once.{Once}
+use Rattle.promise.specs.laws.Once.{once}
 use Rattle.bliskoru.proofs.bliskoru_list.Reads as list
 use Rattle.bliskoru.proofs.bliskoru_list.Kinds as listK
 use Rattle.bliskoru.proofs.bliskoru_judge.Reads as judge

@@ -1,6 +1,5 @@
 -- What is handed over to a C or a Rust program: numbers, and their order in lent memory.
 --     a refusal is its number; 0 says yes. What goes with a yes or with a no is laid into lent memory, and the rest of it stays as it was
--- Assumes nothing.
 use Prim.Native.Nat.{ℕ}
 use mathlib.Core.List.{List, [], _∷_, _++_}
 use lib.IntN.{ℤ, pos}
@@ -9,12 +8,11 @@ use Rattle.field.specs.declared.Field.{Field}
 use Rattle.field.specs.declared.Field.the-variants.{Header, PreviousClose, Trade, Quote, End}
 use Rattle.field.specs.Said.{Said, gives, refuses}
 use Rattle.sheet.specs.Judgement.{Verdict, accepts, refuses-at}
-use Rattle.closing.specs.declared.Method.{Method}
-use Rattle.closing.specs.declared.Method.the-variants.{Vwap, Twap}
-use Rattle.closing.specs.Closing.{Told, close, refused, Answers, six, none-priced}
+use Rattle.price_rules.specs.declared.Method.{Method}
+use Rattle.price_rules.specs.declared.Method.the-variants.{Vwap, Twap}
+use Rattle.price_rules.specs.Closing.{Told, close, refused, Answers, six, none-priced}
 use Rattle.text.specs.declared.Put.{Put}
 use Rattle.text.specs.declared.Put.the-variants.{Next, Full}
-use Rattle.bliskoru.specs.declared.Row.{Row}
 
 -- ---- the list: its length; no list has length 0
 
@@ -46,10 +44,6 @@ rowOf (refused number lots) = number ∷ 0 ∷ lots ∷ []
 abbrev pub rowsOf : List Told → List ℕ
 rowsOf [] = []
 rowsOf (t ∷ ts) = rowOf t ++ rowsOf ts
-
--- a row of the code
-abbrev pub rowSays : Row → List ℕ
-rowSays r = r .told ∷ r .close ∷ r .lots ∷ []
 
 abbrev pub answersNumber : Answers → ℕ
 answersNumber (six day tolds) = 0

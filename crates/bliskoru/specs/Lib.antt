@@ -1,3 +1,2 @@
 pub mod Host
-pub mod Told
-pub mod Yes
+pub mod laws

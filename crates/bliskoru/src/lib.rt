@@ -8,25 +8,26 @@ ghost use Rattle.field.specs.Reading.{readField};
 ghost use Rattle.field.specs.Writing.{written, bufferAfter};
 ghost use Rattle.field.specs.declared.Field.the-variants as F;
 ghost use Rattle.sheet.specs.Judgement.{judgeSheet};
-ghost use Rattle.closing.specs.Closing.{answersOf};
-ghost use Rattle.closing.specs.Says.{answerSays, closingsSay};
-ghost use Rattle.listing.specs.Listing.{listOf};
-ghost use Rattle.bliskoru.specs.Host.{lengthOr0, verdictNumber, verdictByte, methodNumber, rowOf, rowsOf, rowSays, answersNumber, answersByte, answersRows, valuesOf, saidNumber, saidNext, readValues, priceOf};
-use answers::closings;
-use closing::Answer;
-use closing::Closed;
-use closing::Method;
-use closing::SixAnswers;
+ghost use Rattle.price_rules.specs.Closing.{answersOf};
+ghost use Rattle.price_rules.specs.Says.{answerSays, closingsSay};
+ghost use Rattle.list_lines.specs.Listing.{listOf};
+ghost use Rattle.bliskoru.specs.Host.{lengthOr0, verdictNumber, verdictByte, methodNumber, rowOf, rowsOf, answersNumber, answersByte, answersRows, valuesOf, saidNumber, saidNext, readValues, priceOf};
+ghost use Rattle.bliskoru.specs.laws.Host.{rowSays};
 use field::Field;
 use field::Price;
 use field::Read;
 use field::Written;
+use field_reader::read_field;
+use field_writer::write_field;
 use list::closing_list;
-use reader::read_field;
+use price_rules::Answer;
+use price_rules::Closed;
+use price_rules::Method;
+use price_rules::SixAnswers;
 use sheet::Judged;
 use sheet::judge_sheet;
+use six_answers::closings;
 use text::Put;
-use writer::write_field;
 
 // The list's length, or 0 where the buffer has no room for it and is as it was.
 #[no_mangle]

@@ -1,7 +1,9 @@
 -- Any two results that the contract of `rounded_close` permits are equal.
 -- Assumes nothing.
-use Rattle.promise.specs.Once.{Once, through}
-use Rattle.cents.specs.Close.{means, answer, answer-means}
+use Rattle.promise.specs.Once.{Once}
+use Rattle.promise.specs.laws.Once.{through}
+use Rattle.cents.specs.Close.{means}
+use Rattle.cents.specs.laws.Close.{answer, answer-means}
 use Rattle.cents.proofs.rounded_close.Kinds as kinds
 use Rattle.cents.proofs.rounded_close.Reads as reads
 

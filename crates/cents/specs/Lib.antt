@@ -1,3 +1,3 @@
 pub mod Close
 pub mod Round
-pub mod Whole
+pub mod laws

@@ -4,7 +4,8 @@ ghost use mathlib.Core.Path.{_≡_};
 ghost use Prim.Native.Nat.{_+_, _^_, _<_};
 ghost use lib.IntN.{pos};
 ghost use Rattle.cents.specs.Round.{round};
-ghost use Rattle.cents.specs.Close.{closeOf, means, nearest};
+ghost use Rattle.cents.specs.Close.{closeOf, means};
+ghost use Rattle.cents.specs.laws.Close.{nearest};
 
 // The highest close, in cents.
 const HIGHEST: u64 = 99_999_999;

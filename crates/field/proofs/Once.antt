@@ -1,5 +1,6 @@
 -- Any two results that a function's contract permits are equal. Assumes nothing.
-use Rattle.promise.specs.Once.{Once, once}
+use Rattle.promise.specs.Once.{Once}
+use Rattle.promise.specs.laws.Once.{once}
 use Rattle.field.proofs.judge.unless.Reads as unless
 use Rattle.field.proofs.judge.unless.Kinds as unlessK
 use Rattle.field.proofs.judge.also.Reads as also

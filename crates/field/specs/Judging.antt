@@ -1,4 +1,4 @@
--- Document 01, "Ranges" and 6 to 11 of "Numbers given when we say no": the first number that the values of one field earn.
+-- SHEET 3, the ranges of the values, and 6 to 11 of SHEET 4: the first number that the values of one field earn, in the order of SHEET 5.
 use Prim.Native.Nat.{ℕ, _/_, _%_}
 use mathlib.Core.Bool.{Bool, true, _&&_, cond}
 use lib.Dec.{leb, eqb}
@@ -40,30 +40,30 @@ within low high n = both (leb low n) (leb n high)
 abbrev pub centsWithin : ℤ → ℤ → Price → Bool
 centsWithin low high price = both (leZ low (price .cents)) (leZ (price .cents) high)
 
--- metals 1 to 5, marks up to bit 10
+-- SHEET 3, metal and marks: metals 1 to 5, marks up to bit 10
 abbrev pub headerRight : ℕ → ℕ → Bool
 headerRight metal marks = both (within 1 5 metal) (leb marks 2047)
 
--- instruments 0 to 11
+-- SHEET 3, instrument: 0 to 11
 abbrev pub instrumentRight : ℕ → Bool
 instrumentRight instrument = leb instrument 11
 
--- times 0 to 86,399,999, and not below the time before
+-- SHEET 3, time: 0 to 86,399,999, and not below the time before
 abbrev pub timeRight : ℕ → ℕ → Bool
 timeRight least time = both (leb time 86399999) (leb least time)
 
--- outright prices 1 to 99,999,999; spread prices -9,999,999 to 9,999,999
+-- SHEET 3, price: 1 to 99,999,999 for the outright, -9,999,999 to 9,999,999 for a spread
 abbrev pub priceRight : ℕ → Price → Bool
 priceRight instrument price =
     pick (eqb instrument 0)
     (centsWithin (pos 1) (pos 99999999) price)
     (centsWithin (negℤ (pos 9999999)) (pos 9999999) price)
 
--- lots 1 to 10,000
+-- SHEET 3, lots: 1 to 10,000
 abbrev pub lotsRight : ℕ → Bool
 lotsRight lots = within 1 10000 lots
 
--- the sides byte: bit 0 says the bid, bit 1 the offer
+-- SHEET 3, sides: bit 0 says the bid, bit 1 the offer
 abbrev pub hasBid : ℕ → Bool
 hasBid sides = eqb (sides % 2) 1
 
@@ -91,7 +91,7 @@ ordered sides bid offer = ifPresent (both (hasBid sides) (hasOffer sides)) (leZ 
 abbrev pub stamped : ℕ → ℕ → ℕ → ℕ → ℕ
 stamped least time instrument rest = unless (instrumentRight instrument) 7 (unless (timeRight least time) 8 rest)
 
--- the field's values, in the order of the numbers; in a quote 11 for sides and absent zeros stands before 9, and 11 for bid above offer after it
+-- SHEET 5: the field's values in the order of the numbers; in a quote the sides (11) come before the prices (9), and the bid above the offer (11) last
 unfoldable pub judge : ℕ → Field → ℕ
 judge least (Header metal marks) = unless (headerRight metal marks) 6 fine
 judge least (PreviousClose instrument price) = unless (instrumentRight instrument) 7 (unless (priceRight instrument price) 9 fine)

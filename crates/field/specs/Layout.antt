@@ -1,5 +1,4 @@
--- Document 01, "The day sheet": "tagged fields, a one-byte tag, a two-byte length, then the body." The bytes of a field's values, and the
--- values of a body's bytes.
+-- SHEET 1, the table of tags: a field's tag, its length and its body, as the bytes of its values and as the values of a body's bytes.
 use Prim.Native.Nat.{ℕ, _+_}
 use mathlib.Core.Bool.{Bool, cond}
 use mathlib.Core.List.{List, [], _∷_, _++_}

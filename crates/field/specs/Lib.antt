@@ -3,7 +3,4 @@ pub mod Layout
 pub mod Said
 pub mod Reading
 pub mod Writing
-pub mod Laws
-pub mod Sound
-pub mod Ends
-pub mod Standing
+pub mod laws

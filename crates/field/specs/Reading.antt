@@ -1,4 +1,4 @@
--- Document 01, "The reader of one field": what stands at a place of a sheet.
+-- SHEET 8, reading: what stands at a place of a sheet.
 use Prim.Native.Nat.{ℕ, _+_, _-_}
 use mathlib.Core.List.{List, []}
 use lib.Dec.{leb, eqb}
@@ -13,7 +13,7 @@ use Rattle.field.specs.Said.{Said, gives, refuses, settled}
 abbrev pub remaining : List ℕ → ℕ → ℕ
 remaining s at = length s - at
 
--- "in a field the order is 2 for the head, 3, 4, 2 for the body": of a tag, the length told, and the bytes that remain
+-- SHEET 5, the head of a field: 2 where it is not whole; then by its tag (3), the length told (4) and the bytes that remain for the body (2)
 abbrev pub taggedNumber : ℕ → ℕ → ℕ → ℕ
 taggedNumber tag told rest =
     unless (tagRight tag) 3

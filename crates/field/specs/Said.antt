@@ -1,12 +1,9 @@
--- What an answer says in document 01's terms: the number given when we say no, and the place that goes with it; or what is given instead.
---     Said      yes, with what is given and the place behind the field; or no, with a number of the table and a place
---     readSays, writtenSays    what each case of an answer of the code says; no two answers say the same
--- Assumes nothing.
+-- What an answer says: a number of SHEET 4 and the place that goes with it; or what is given instead, and the place behind it.
+--     Said                     yes, with what is given and the place behind the field; or no, with a number and a place
+--     readSays, writtenSays    what each case of an answer of the code says
 use Prim.Native.Nat.{ℕ}
-use mathlib.Core.Path.{_≡_, refl}
 use mathlib.Core.Bool.{cond}
 use lib.Dec.{eqb}
-use Rattle.promise.specs.Once.{through}
 use Rattle.field.specs.declared.Field.{Field}
 use Rattle.field.specs.declared.Read.{Read}
 use Rattle.field.specs.declared.Read.the-variants as R
@@ -29,27 +26,3 @@ readSays (R.Refused number at) = refuses number at
 abbrev pub writtenSays : Written → Said (Unit {0})
 writtenSays (W.Next next) = gives tt next
 writtenSays (W.Refused number at) = refuses number at
-
--- ---- an answer, read off what it says
-
-abbrev read-of : Said Field → Read
-read-of (gives f next) = R.Field f next
-read-of (refuses number at) = R.Refused number at
-
-read-back : (r : Read) → read-of (readSays r) ≡ r
-read-back (R.Field f next) = refl
-read-back (R.Refused number at) = refl
-
-abbrev written-of : Said (Unit {0}) → Written
-written-of (gives given next) = W.Next next
-written-of (refuses number at) = W.Refused number at
-
-written-back : (r : Written) → written-of (writtenSays r) ≡ r
-written-back (W.Next next) = refl
-written-back (W.Refused number at) = refl
-
-pub read-once : {d : Said Field} {x y : Read} → readSays x ≡ d → readSays y ≡ d → x ≡ y
-read-once p q = through readSays read-of read-back p q
-
-pub written-once : {d : Said (Unit {0})} {x y : Written} → writtenSays x ≡ d → writtenSays y ≡ d → x ≡ y
-written-once p q = through writtenSays written-of written-back p q

@@ -1,4 +1,4 @@
--- Document 01, "A writer puts one field into the lent buffer from a given place onward."
+-- SHEET 8, writing: one field put into the lent buffer from a place on.
 use Prim.Native.Nat.{ℕ, _+_, _-_}
 use mathlib.Core.Bool.{cond}
 use mathlib.Core.List.{List, _++_}
@@ -13,11 +13,11 @@ use Rattle.field.specs.Said.{Said, settled}
 abbrev pub fieldSize : Field → ℕ
 fieldSize f = sizeOf (tagOf f)
 
--- "6, 7, 8 (range only), 9, 10, 11, then 16"; len - at bytes are behind the place, none where it is past the buffer
+-- first the values, 6 to 11, with no time before; then the room, 16: len - at bytes are behind the place, none where it is past the buffer
 unfoldable pub writeNumber : ℕ → ℕ → Field → ℕ
 writeNumber len at f = also (judge 0 f) (unless (leb (fieldSize f) (len - at)) 16 fine)
 
--- "A refusal .. gives the old place. Success .. gives the place behind them."
+-- the place behind the field; a refusal gives the place as it was
 unfoldable pub written : List ℕ → ℕ → Field → Said (Unit {0})
 written b at f = settled (writeNumber (length b) at f) at tt (at + fieldSize f)
 
@@ -25,6 +25,6 @@ written b at f = settled (writeNumber (length b) at f) at tt (at + fieldSize f)
 abbrev pub over : List ℕ → ℕ → List ℕ → List ℕ
 over b at bytes = take at b ++ (bytes ++ drop (at + length bytes) b)
 
--- "A refusal changes no byte .. Success changes the field's bytes only"
+-- the field's own bytes are changed and no others; a refusal changes none
 unfoldable pub bufferAfter : List ℕ → ℕ → Field → List ℕ
 bufferAfter b at f = cond (eqb (writeNumber (length b) at f) fine) (over b at (fieldBytes f)) b

@@ -1,10 +1,10 @@
-// What document 01's ranges say of a field's values: the first number that they earn, or FINE.
+// What the ranges of SHEET 3 say of a field's values: the first number that they earn, or FINE.
 ghost use mathlib.Core.Path.{_≡_};
 ghost use lib.IntN.{pos};
 ghost use lib.Signed.{leZ};
 ghost use Rattle.field.specs.Judging.{within, centsWithin, ifPresent, ifAbsent, headerRight, timeRight, priceRight, hasBid, hasOffer, sidesRight, sidePricesRight, ordered, stamped};
 ghost use Rattle.field.specs.Judging as Judging;
-ghost use Rattle.field.specs.Ends.{lowestPrice, highestPrice, bothSidesRight};
+ghost use Rattle.field.specs.laws.Ends.{lowestPrice, highestPrice, bothSidesRight};
 ghost use Rattle.field.specs.declared.Field.the-variants as F;
 use crate::Field;
 use crate::Price;

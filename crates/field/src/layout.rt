@@ -1,8 +1,8 @@
-// A field's tag, its body's length and its size: document 01's table of tags.
+// A field's tag, its body's length and its size: the table of tags of SHEET 1.
 ghost use mathlib.Core.Path.{_≡_};
 ghost use Prim.Native.Nat.{_-_};
 ghost use Rattle.field.specs.Layout.{tagRight, lengthOf, sizeOf, tagOf};
-ghost use Rattle.field.specs.Standing as Standing;
+ghost use Rattle.field.specs.laws.Standing as Standing;
 use crate::Field;
 use crate::judge::is_within;
 use wire::join2;

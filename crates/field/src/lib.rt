@@ -1,4 +1,4 @@
-// The five fields of a day sheet: their values, document 01's numbers, and what its ranges say of one field. Hosts don't call it.
+// The five fields of a day sheet: their values, the numbers of SHEET 4, and what the ranges of SHEET 3 say of one field. Hosts don't call it.
 pub mod judge;
 pub mod layout;
 pub mod number;

@@ -1,4 +1,4 @@
-// Document 01, "Numbers given when we say no": the numbers that a field or a whole sheet can earn.
+// SHEET 4: the numbers that a field or a whole sheet can earn.
 
 // Nothing is refused.
 pub const FINE: u8 = 0;

@@ -6,12 +6,12 @@ use field::Field;
 use field::Price;
 use field::Read;
 use field::Written;
+use field_reader::field_body;
+use field_reader::read_field;
+use field_walker::turn_at;
+use field_writer::write_field;
 use libc::STDIN_FILENO;
 use libc::STDOUT_FILENO;
-use reader::field_body;
-use reader::read_field;
-use walker::turn_at;
-use writer::write_field;
 
 // A line of its own.
 fn say(text: &[u8]) {

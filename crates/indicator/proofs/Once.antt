@@ -1,5 +1,6 @@
 -- Any two results that a function's contract permits are equal. Assumes nothing.
-use Rattle.promise.specs.Once.{Once, once}
+use Rattle.promise.specs.Once.{Once}
+use Rattle.promise.specs.laws.Once.{once}
 use Rattle.indicator.proofs.Indicator.empty.Reads as empty
 use Rattle.indicator.proofs.Indicator.empty.Kinds as emptyK
 use Rattle.indicator.proofs.Indicator.close.Reads as close
@@ -8,8 +9,6 @@ use Rattle.indicator.proofs.Indicator.trade.Reads as trade
 use Rattle.indicator.proofs.Indicator.trade.Kinds as tradeK
 use Rattle.indicator.proofs.Indicator.quote.Reads as quote
 use Rattle.indicator.proofs.Indicator.quote.Kinds as quoteK
-use Rattle.indicator.proofs.Indicator.clear.Reads as clear
-use Rattle.indicator.proofs.Indicator.clear.Kinds as clearK
 use Rattle.indicator.proofs.Indicator.has_reference.Reads as has-reference
 use Rattle.indicator.proofs.Indicator.has_reference.Kinds as has-referenceK
 use Rattle.indicator.proofs.Indicator.value.Reads as value
@@ -30,9 +29,6 @@ trade-once κs a x y s t p q = once p q
 
 pub quote-once : Once 0 quoteK.ps quoteK.r quote.Post (λ κs x s. x)
 quote-once κs a x y s t p q = once p q
-
-pub clear-once : Once 0 clearK.ps clearK.r clear.Post (λ κs x s. x)
-clear-once κs a x y s t p q = once p q
 
 pub has-reference-once : Once 0 has-referenceK.ps has-referenceK.r has-reference.Post (λ κs x s. x)
 has-reference-once κs a x y s t p q = once p q

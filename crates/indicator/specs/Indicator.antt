@@ -1,5 +1,5 @@
--- Document 01, "Pricing a contract": the indicator of one instrument, a small state handed back changed by each record, and its sum over
--- the 300,000 milliseconds of a window.
+-- RULES 7: the indicator of one instrument, a small state handed back changed by each record; and RULES 6: its sum over the milliseconds of a
+-- window.
 use Prim.Native.Nat.{ℕ, zero, suc, _+_}
 use mathlib.Core.Bool.{Bool, true, false, cond}
 use mathlib.Core.List.{List, [], _∷_}
@@ -35,11 +35,7 @@ centsOf (At p) = p .cents
 abbrev pub empty : Indicator
 empty = record { reference = Absent; bid = Absent; offer = Absent }
 
--- the same reference, and an empty book
-abbrev pub bookEmptied : Indicator → Indicator
-bookEmptied s = record { reference = s .reference; bid = Absent; offer = Absent }
-
--- "the reference is the instrument's last trade of the day so far"
+-- RULES 7: a trade becomes the reference
 abbrev pub afterTrade : Indicator → Price → Indicator
 afterTrade s price = record { reference = At price; bid = s .bid; offer = s .offer }
 
@@ -48,11 +44,11 @@ abbrev pub elseAt : Side → Price → Side
 elseAt Absent price = At price
 elseAt (At p) price = At p
 
--- "else its previous close"
+-- RULES 7: the previous close is the reference where there was no trade
 abbrev pub afterClose : Indicator → Price → Indicator
 afterClose s price = record { reference = elseAt (s .reference) price; bid = s .bid; offer = s .offer }
 
--- "A quote record replaces both sides."
+-- RULES 7: a quote replaces both sides; a side that it leaves out is absent
 abbrev pub afterQuote : Indicator → ℕ → Price → Price → Indicator
 afterQuote s sides bid offer = record { reference = s .reference; bid = sideOf (hasBid sides) bid; offer = sideOf (hasOffer sides) offer }
 
@@ -60,12 +56,12 @@ afterQuote s sides bid offer = record { reference = s .reference; bid = sideOf (
 abbrev pub below : Price → Price → Bool
 below price other = ltZ (price .cents) (other .cents)
 
--- "an offer below it gives the offer; otherwise the reference"
+-- RULES 7: the offer where it is below the reference, else the reference
 abbrev pub belowOffer : Price → Side → Price
 belowOffer reference Absent = reference
 belowOffer reference (At o) = cond (below o reference) o reference
 
--- "A bid above it gives the bid"
+-- RULES 7: the bid where it is above the reference
 abbrev pub insideBook : Price → Side → Side → Price
 insideBook reference Absent offer = belowOffer reference offer
 insideBook reference (At b) offer = cond (below reference b) b (belowOffer reference offer)
@@ -81,7 +77,7 @@ valueOf s = valueBy (s .reference) (s .bid) (s .offer)
 
 -- ---- the fields of a sheet
 
--- "The book is empty at the window's start, and only quote records stamped inside the window fill it": those from its start on
+-- RULES 7: the book is empty at the window's start, and is filled by quotes stamped inside the window alone: those from its start on
 unfoldable pub bookFrom : ℕ → ℕ
 bookFrom start = start
 
@@ -110,7 +106,7 @@ afterFrom i start t s (f ∷ fs) = afterFrom i start t (cond (leb (stamp f) t) (
 abbrev pub after : ℕ → ℕ → ℕ → List Field → Indicator
 after i start t fs = afterFrom i start t empty fs
 
--- "Indicator at a millisecond, after every record of that millisecond"
+-- RULES 7: the indicator at a millisecond, behind every record of that millisecond
 abbrev pub indicatorAt : ℕ → ℕ → ℕ → List Field → Side
 indicatorAt i start t fs = valueOf (after i start t fs)
 
@@ -123,10 +119,10 @@ unfoldable pub sumFrom : (ℕ → ℤ) → ℕ → ℕ → ℤ
 sumFrom f t zero = pos 0
 sumFrom f t (suc n) = sumFrom f t n +ℤ f (t + n)
 
--- "the sum of the indicator over the 300,000 milliseconds"
+-- RULES 6: the sum of the indicator over the window's milliseconds
 abbrev pub twapSum : ℕ → ℕ → List Field → ℤ
 twapSum i start fs = sumFrom (centsAt i start fs) start windowLength
 
--- there is a reference at the window's first millisecond; else 13
+-- RULES 9, 13: whether there is a reference at the window's first millisecond
 abbrev pub hasReference : ℕ → ℕ → List Field → Bool
 hasReference i start fs = present (after i start start fs .reference)

@@ -1,7 +1,7 @@
 // The indicator of one instrument, a small state handed back changed by each record, and its value. Hosts don't call it.
 // specs/ has the indicator at each millisecond of a window, its sum, and the laws of that sum.
 ghost use mathlib.Core.Path.{_≡_};
-ghost use Rattle.indicator.specs.Indicator.{empty, sideOf, elseAt, present, below, belowOffer, insideBook, bookFrom, bookEmptied, afterClose, afterTrade, afterQuote, valueOf, taken};
+ghost use Rattle.indicator.specs.Indicator.{empty, sideOf, elseAt, present, below, belowOffer, insideBook, bookFrom, afterClose, afterTrade, afterQuote, valueOf, taken};
 use field::Field;
 use field::Price;
 
@@ -129,19 +129,6 @@ impl Indicator {
             reference,
             bid: new_bid,
             offer: new_offer,
-        };
-        self
-    }
-
-    // The book emptied.
-    pub fn clear(mut self) -> Self
-        ensures { λ r. ⌜ r ≡ bookEmptied self ⌝ }
-    {
-        let reference = self.reference;
-        self = Indicator {
-            reference,
-            bid: Side::Absent,
-            offer: Side::Absent,
         };
         self
     }

@@ -12,20 +12,21 @@ use contract.Lifetimes.{Lfts}
 use denote.Ref.{RefT, now}
 use denote.Triple.Clauses.{AtExit}
 use Rattle.wire.specs.Big.{Bytes}
-use Rattle.field.specs.Laws.{clash}
+use Rattle.field.specs.laws.Field.{clash}
 use Rattle.sheet.specs.declared.Day.{Day}
 use Rattle.sheet.specs.Fields.{fieldsOf, Each}
 use Rattle.sheet.specs.Judgement.{Verdict, accepts, refuses-at, judgeSheet}
-use Rattle.closing.specs.declared.SixAnswers.{SixAnswers}
-use Rattle.closing.specs.declared.Closed.{Closed}
-use Rattle.closing.specs.declared.Closed.the-variants as C
-use Rattle.closing.specs.Closing.{Told, six, none-priced, answersBy, answersOf}
-use Rattle.closing.specs.Says.{closingsSay, closedSays, closed-once}
-use Rattle.answers.proofs.closings.Reads as closings
-use Rattle.answers.proofs.closings.Kinds as closingsK
+use Rattle.price_rules.specs.declared.SixAnswers.{SixAnswers}
+use Rattle.price_rules.specs.declared.Closed.{Closed}
+use Rattle.price_rules.specs.declared.Closed.the-variants as C
+use Rattle.price_rules.specs.Closing.{Told, six, none-priced, answersBy, answersOf}
+use Rattle.price_rules.specs.Says.{closingsSay, closedSays}
+use Rattle.price_rules.specs.laws.Says.{closed-once}
+use Rattle.six_answers.proofs.closings.Reads as closings
+use Rattle.six_answers.proofs.closings.Kinds as closingsK
 use Rattle.laws.specs.Demand.{steps, lifted, Liftable, Moves, turned, turnedDay}
-use Rattle.laws.specs.Lift.{shifts}
-use Rattle.laws.specs.Turning.{turns}
+use Rattle.laws.specs.laws.Lift.{shifts}
+use Rattle.laws.specs.laws.Turning.{turns}
 
 -- `closings`, lent a sheet that holds s, may answer x
 pub record Closes (s : List ℕ) (x : Closed) : Type 0 where

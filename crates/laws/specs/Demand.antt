@@ -1,5 +1,5 @@
--- Demand 3, as it is stated: "lift all 3M outright prices by whole steps, and every priced contract lifts by exactly that, same method, same
--- lots, same refusals; turn one spread round, and all six answers stay." Lift and Turning prove what stands here.
+-- RULES 11, the two laws as they are stated: with 3M's outright prices lifted by whole steps every priced contract is lifted by as much, its method
+-- and lots and all refusals staying; with a spread turned round the six answers stay. Lift and Turning prove what stands here.
 --     lifted, ShiftLaw     a sheet with 3M lifted, and the first law
 --     turned, TurnLaw      a sheet with one spread turned round, and the second law;  TwiceLaw    turned twice it is as it was
 use Prim.Native.Nat.{ℕ, _-_, _^_, _≤_, _<_}
@@ -17,10 +17,10 @@ use Rattle.market.specs.Market.{stepOf, 3M}
 use Rattle.sheet.specs.declared.Day.{Day}
 use Rattle.sheet.specs.Fields.{fieldsOf, encode, Each}
 use Rattle.sheet.specs.Judgement.{accepts, judgeSheet}
-use Rattle.indicator.specs.Changed.{changed}
-use Rattle.indicator.specs.Moved.{shiftPrice, shiftField, turnField}
-use Rattle.closing.specs.declared.Method.{Method}
-use Rattle.closing.specs.Closing.{Told, close, refused, six, answersOf}
+use Rattle.indicator.specs.laws.Changed.{changed}
+use Rattle.indicator.specs.laws.Moved.{shiftPrice, shiftField, turnField}
+use Rattle.price_rules.specs.declared.Method.{Method}
+use Rattle.price_rules.specs.Closing.{Told, close, refused, six, answersOf}
 
 -- ---- 3M lifted
 
@@ -76,7 +76,7 @@ ShiftLaw = (s : List ℕ) (day : Day) (k : ℤ) → Bytes s → judgeSheet s ≡
 
 -- ---- a spread turned round
 
--- spread i is quoted the other way round: "bit i-1 for spread i" of the marks
+-- spread i is quoted the other way round: its mark, bit i-1, is changed
 abbrev pub turnedMarks : ℕ → ℕ → ℕ
 turnedMarks i marks = bitXor marks (2 ^ (i - 1))
 

@@ -1,6 +1,7 @@
 -- Any two outcomes that the contract of `closing_list` permits are equal: the answer, and every byte of the lent buffer. Assumes nothing.
 use denote.Ref.{now}
-use Rattle.promise.specs.Once.{Once, once}
+use Rattle.promise.specs.Once.{Once}
+use Rattle.promise.specs.laws.Once.{once}
 use Rattle.list.proofs.closing_list.Reads as closing-list
 use Rattle.list.proofs.closing_list.Kinds as closing-listK
 

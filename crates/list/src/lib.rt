@@ -3,13 +3,13 @@
 ghost use mathlib.Core.Path.{_≡_};
 ghost use Rattle.text.specs.Over.{putPlace, putBuffer};
 ghost use Rattle.text.specs.Held.{Has, held};
-ghost use Rattle.closing.specs.Says.{closedSays};
-ghost use Rattle.listing.specs.Listing.{listText, listOf};
-use answers::closings;
-use closing::Closed;
-use lines::put_lines;
-use lines::put_refusal;
-use listing::put_metal;
+ghost use Rattle.price_rules.specs.Says.{closedSays};
+ghost use Rattle.list_lines.specs.Listing.{listText, listOf};
+use list_lines::put_lines;
+use list_lines::put_refusal;
+use names::put_metal;
+use price_rules::Closed;
+use six_answers::closings;
 use text::Put;
 use text::Text;
 

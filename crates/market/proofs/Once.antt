@@ -1,17 +1,14 @@
 -- Any two results that a function's contract permits are equal. Assumes nothing.
-use Rattle.promise.specs.Once.{Once, once}
+use Rattle.promise.specs.Once.{Once}
+use Rattle.promise.specs.laws.Once.{once}
 use Rattle.market.proofs.metal_of.Reads as metal-of
 use Rattle.market.proofs.metal_of.Kinds as metal-ofK
-use Rattle.market.proofs.contract_of.Reads as contract-of
-use Rattle.market.proofs.contract_of.Kinds as contract-ofK
 use Rattle.market.proofs.leg_of.Reads as leg-of
 use Rattle.market.proofs.leg_of.Kinds as leg-ofK
 use Rattle.market.proofs.start_in.Reads as start-in
 use Rattle.market.proofs.start_in.Kinds as start-inK
 use Rattle.market.proofs.start_of.Reads as start-of
 use Rattle.market.proofs.start_of.Kinds as start-ofK
-use Rattle.market.proofs.step_of.Reads as step-of
-use Rattle.market.proofs.step_of.Kinds as step-ofK
 use Rattle.market.proofs.in_window.Reads as in-window
 use Rattle.market.proofs.in_window.Kinds as in-windowK
 use Rattle.market.proofs.is_marked.Reads as is-marked
@@ -30,9 +27,6 @@ use Rattle.market.proofs.step_by.Kinds as step-byK
 pub metal-of-once : Once 0 metal-ofK.ps metal-ofK.r metal-of.Post (λ κs x s. x)
 metal-of-once κs a x y s t p q = once p q
 
-pub contract-of-once : Once 0 contract-ofK.ps contract-ofK.r contract-of.Post (λ κs x s. x)
-contract-of-once κs a x y s t p q = once p q
-
 pub leg-of-once : Once 0 leg-ofK.ps leg-ofK.r leg-of.Post (λ κs x s. x)
 leg-of-once κs a x y s t p q = once p q
 
@@ -41,9 +35,6 @@ start-in-once κs a x y s t p q = once p q
 
 pub start-of-once : Once 0 start-ofK.ps start-ofK.r start-of.Post (λ κs x s. x)
 start-of-once κs a x y s t p q = once p q
-
-pub step-of-once : Once 0 step-ofK.ps step-ofK.r step-of.Post (λ κs x s. x)
-step-of-once κs a x y s t p q = once p q
 
 pub in-window-once : Once 0 in-windowK.ps in-windowK.r in-window.Post (λ κs x s. x)
 in-window-once κs a x y s t p q = once p q

@@ -1,4 +1,2 @@
 pub mod Market
-pub mod Table
-pub mod Laws
-pub mod Rules
+pub mod laws

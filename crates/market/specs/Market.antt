@@ -1,8 +1,7 @@
--- Document 01, "Instruments and order" and "Windows and steps": its tables, and what a row of each says.
+-- RULES 1 to 4: the tables by metal, by contract and by instrument, what a row of each says, the windows, the marks and the minimum.
 use Prim.Native.Nat.{ℕ, zero, suc, _+_, _/_, _%_, _^_}
 use mathlib.Core.Bool.{Bool, false, _&&_, cond}
 use mathlib.Core.List.{List, [], _∷_}
-use mathlib.Core.Path.{_≡_, refl}
 use lib.Dec.{eqb, leb, ltb}
 use lib.ListN.{getD}
 use Rattle.market.specs.declared.Metal.{Metal}
@@ -10,7 +9,7 @@ use Rattle.market.specs.declared.Contract.{Contract}
 use Rattle.market.specs.declared.Leg.{Leg}
 use Rattle.market.specs.declared.Leg.the-variants.{Outright, Over, Under}
 
--- spread start, anchor start, 3M step
+-- RULES 3, by metal: spread start, anchor start, 3M step
 abbrev pub metals : List (List ℕ)
 metals =
     (58200000 ∷ 58500000 ∷ 100 ∷ []) ∷  -- 1 Nickel
@@ -29,7 +28,8 @@ unfoldable pub metalOf : ℕ → Metal
 metalOf zero = metalBy []
 metalOf (suc m) = metalBy (getD metals m [])
 
--- VWAP from the first instrument up to the one before the second, TWAP from the third; rounded to the fourth, or where that is 0 to the metal's step
+-- RULES 1, by contract in pricing order: VWAP from the first instrument up to the one before the second, TWAP from the third; rounded to the
+-- fourth, or where that is 0 to the metal's step (RULES 3)
 abbrev pub contracts : List (List ℕ)
 contracts =
     (0 ∷ 1 ∷ 0 ∷ 0 ∷ []) ∷  -- 3M: VWAP from 0, TWAP from 0
@@ -67,7 +67,7 @@ M1 = 4
 abbrev pub Cash : ℕ
 Cash = 5
 
--- A and B of each A-B; the outright has 3M for both
+-- RULES 1, by instrument: A and B of each A-B; the outright has 3M for both
 abbrev pub instruments : List (List ℕ)
 instruments =
     (3M ∷ 3M ∷ []) ∷  -- 0 3M outright
@@ -84,7 +84,7 @@ instruments =
     (Cash ∷ M1 ∷ []) ∷  -- 11 Cash-M1
     []
 
--- "A spread A-B is the price of A less the price of B": where A is the later in pricing order it is B's close plus the spread, where B is, A's close less it
+-- RULES 2: the later of A and B in pricing order is priced. A is B's close plus the spread, B is A's close less it
 abbrev pub legBy : ℕ → ℕ → Leg
 legBy a b = cond (ltb b a) (Over b) (cond (ltb a b) (Under a) Outright)
 
@@ -96,28 +96,27 @@ rowLeg row = legBy (getD row 0 0) (getD row 1 0)
 unfoldable pub legOf : ℕ → Leg
 legOf i = rowLeg (getD instruments i [])
 
--- "Instrument 0 uses the anchor window, all others the spread window."
+-- RULES 3: the anchor window for the outright, the spread window for every spread
 unfoldable pub startOf : ℕ → ℕ → ℕ
 startOf metal i = cond (eqb i 0) (metalOf metal .anchor) (metalOf metal .spread)
 
--- "Contracts other than 3M round to 1 cent"; 3M by the metal
+-- RULES 3: 3M is rounded to its metal's step, every other contract to 1 cent
 unfoldable pub stepOf : ℕ → ℕ → ℕ
 stepOf metal c = cond (eqb (contractOf c .step) 0) (metalOf metal .step) (contractOf c .step)
 
--- "Every window holds 300,000 ms": a number that nothing computes with unasked, since all its milliseconds can be counted
-pub windowLength : ℕ
+-- RULES 3: a window's milliseconds. A number that nothing computes with unasked, since all its milliseconds can be counted
+unfoldable pub windowLength : ℕ
 windowLength = 300000
 
--- the number itself, for a proof that asks for it
-pub window-length : windowLength ≡ 300000
-unfolding windowLength
-window-length = refl
+-- RULES 4: the least lots, over all of a contract's VWAP instruments together, at which its trades price it
+abbrev pub minimumLots : ℕ
+minimumLots = 5
 
--- "its start is in, start + 300,000 is out"
+-- RULES 3: a window's start is in, and the millisecond 300,000 later is out
 unfoldable pub inWindow : ℕ → ℕ → Bool
 inWindow start time = leb start time && ltb time (start + windowLength)
 
--- "bit i-1 for spread i"; instrument 0 has no mark
+-- RULES 2: bit i-1 marks spread i; the outright has no mark
 unfoldable pub marked : ℕ → ℕ → Bool
 marked marks zero = false
 marked marks (suc i) = eqb (marks / 2 ^ i % 2) 1

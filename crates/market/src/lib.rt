@@ -1,9 +1,9 @@
-// Document 01's constant tables by metal, by contract and by instrument, the windows and the marks. Hosts don't call it.
+// The constant tables by metal, by contract and by instrument, the windows and the marks: RULES 1 to 4. Hosts don't call it.
 ghost use mathlib.Core.Path.{_≡_};
 ghost use mathlib.Core.Bool.{cond};
 ghost use lib.Dec.{eqb};
 ghost use Rattle.market.specs.Market.{metalOf, contracts, contractBy, contractOf, instruments, rowLeg, legOf, startOf, stepOf, inWindow, marked};
-ghost use Rattle.market.specs.Laws.{startIn};
+ghost use Rattle.market.specs.laws.Rows.{startIn};
 
 // A metal's spread start and anchor start, in milliseconds of the day, and its 3M step, in cents.
 pub struct Metal {
@@ -29,6 +29,9 @@ pub enum Leg {
 
 // How many milliseconds every window holds.
 pub const WINDOW: u32 = 300_000;
+
+// The least lots, over all of a contract's VWAP instruments together, at which its trades price it.
+pub const MINIMUM_LOTS: u64 = 5;
 
 // Nickel, Aluminium, Zinc, Copper, Lead: spread start, anchor start, 3M step.
 const METALS: [[u32; 3]; 5] = [
@@ -124,16 +127,6 @@ pub fn contract_by(row: [u8; 4]) -> Contract
     }
 }
 
-// The row of a contract, 0 to 5 in pricing order; of any other contract a row of zeros.
-pub fn contract_of(contract: usize) -> Contract
-    ensures { λ r. ⌜ r ≡ contractOf contract ⌝ }
-{
-    if contract < 6 {
-        return contract_by(CONTRACTS[contract]);
-    }
-    contract_by([0; 4])
-}
-
 // The leg that an instrument's row says: of A and B the contract that is priced first is the other leg.
 pub fn leg_by(row: [u8; 2]) -> Leg
     ensures { λ r. ⌜ r ≡ rowLeg row ⌝ }
@@ -188,14 +181,6 @@ pub fn step_by(metal: u8, step: u8) -> u32
         return by_metal.step;
     }
     step as u32
-}
-
-// The step that a contract rounds to: 3M's by the metal, every other contract's 1 cent; a contract above 5 has the metal's.
-pub fn step_of(metal: u8, contract: usize) -> u32
-    ensures { λ r. ⌜ r ≡ stepOf metal contract ⌝ }
-{
-    let row = contract_of(contract);
-    step_by(metal, row.step)
 }
 
 // Whether a time lies in the window of a start: the start is in, start + 300,000 is out.

@@ -1,5 +1,6 @@
 -- Any two results that a function's contract permits are equal. Assumes nothing.
-use Rattle.promise.specs.Once.{Once, once}
+use Rattle.promise.specs.Once.{Once}
+use Rattle.promise.specs.laws.Once.{once}
 use Rattle.right_field.proofs.right_header.Reads as right-header
 use Rattle.right_field.proofs.right_header.Kinds as right-headerK
 use Rattle.right_field.proofs.right_previous.Reads as right-previous

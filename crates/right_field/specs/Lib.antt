@@ -1,1 +1,1 @@
-pub mod Right
+pub mod laws

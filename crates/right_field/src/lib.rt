@@ -1,10 +1,9 @@
 // Whether a right field of a tag stands at a place of a sheet, its time put aside: one look at its bytes, and no field is made. What a field that is
-// not right earns, `reader` and `admit` say. Hosts don't call it.
+// not right earns, `field_reader` and `admit` say. Hosts don't call it.
 ghost use mathlib.Core.Path.{_≡_};
 ghost use lib.ListN.{length};
 ghost use Rattle.field.specs.Layout.{headerOf, previousOf, tradeOf, quoteOf};
-ghost use Rattle.right_field.specs.Right.{valuesRight, rightAt};
-use decoder::price_at;
+ghost use Rattle.right_field.specs.laws.Right.{valuesRight, rightAt};
 use field::judge::both_sides_right;
 use field::judge::judge_header;
 use field::judge::judge_previous;
@@ -13,6 +12,7 @@ use field::judge::judge_trade;
 use field::layout;
 use field::layout::stands;
 use field::number;
+use raw_reader::price_at;
 use wire::join2;
 
 // The values of a body earn no number, by its tag.

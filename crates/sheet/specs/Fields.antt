@@ -41,35 +41,6 @@ unfoldable pub encode : List Field → List ℕ
 encode [] = []
 encode (f ∷ fs) = fieldBytes f ++ encode fs
 
--- a sum over fields
-unfoldable pub sumOver : (Field → ℕ) → List Field → ℕ
-sumOver m [] = 0
-sumOver m (f ∷ fs) = m f + sumOver m fs
-
--- how many fields pass a test: the sum of 1 for each
-unfoldable pub oneIf : Bool → ℕ
-oneIf true = 1
-oneIf false = 0
-
-unfoldable pub counted : (Field → Bool) → Field → ℕ
-counted test f = oneIf (test f)
-
-abbrev pub countOver : (Field → Bool) → List Field → ℕ
-countOver test fs = sumOver (counted test) fs
-
--- the field is a trade on the instrument
-abbrev pub tradeOn : ℕ → Field → Bool
-tradeOn i (Header metal marks) = false
-tradeOn i (PreviousClose instrument price) = false
-tradeOn i (Trade time instrument price lots) = eqb instrument i
-tradeOn i (Quote time instrument sides bid offer) = false
-tradeOn i (End count) = false
-
--- a state that each field changes
-unfoldable pub runOver : {A : Type 0} → (A → Field → A) → A → List Field → A
-runOver g a [] = a
-runOver g a (f ∷ fs) = runOver g (g a f) fs
-
 -- something holds of each
 abbrev pub Each : (Field → Type 0) → List Field → Type 0
 Each P [] = Unit {0}

@@ -1,11 +1,9 @@
--- Document 01, "The day sheet" and "Numbers given when we say no", over a whole sheet: accepted, or the first number and its byte.
+-- SHEET 4 and 5 over a whole sheet: accepted, or the first number and its byte.
 use Prim.Native.Nat.{ℕ, _+_}
 use mathlib.Core.Bool.{cond}
 use mathlib.Core.List.{List, [], _∷_}
-use mathlib.Core.Path.{_≡_, refl}
 use lib.Dec.{leb, eqb}
 use lib.ListN.{length}
-use Rattle.promise.specs.Once.{through}
 use Rattle.field.specs.declared.Field.{Field}
 use Rattle.field.specs.Said.{Said, gives, refuses}
 use Rattle.admit.specs.declared.Progress.{Progress}
@@ -24,7 +22,7 @@ pub data Verdict : Type 0 where
 abbrev pub dayOf : Progress → Day
 dayOf p = record { metal = p .metal; marks = p .marks; fields = p .count + 1 }
 
--- behind a right end no byte may follow: 5 at the first of them
+-- SHEET 2: behind a right end nothing follows; else 5 at the first byte of it
 unfoldable pub atEnd : ℕ → ℕ → Progress → Verdict
 atEnd length next p = cond (eqb next length) (accepts (dayOf p)) (refuses-at 5 next)
 
@@ -34,30 +32,19 @@ after length at next p (goes q) rest = rest q
 after length at next p ends rest = atEnd length next p
 after length at next p (stops number) rest = refuses-at number at
 
--- fields are taken in sheet order: its shape (2, 3, 4, 2), then whether it may come next (5 to 12). A missing end is 2 at the sheet's
--- length, where no byte remains
+-- SHEET 5: field after field, its shape (2, 3, 4, 2), then whether it may come next (5 to 12). A missing end is 2 at the sheet's length, where
+-- no byte remains
 unfoldable pub judgeReads : ℕ → ℕ → Progress → List (Said Field) → Verdict
 judgeReads length at p [] = refuses-at 2 at
 judgeReads length at p (refuses number place ∷ rs) = refuses-at number at
 judgeReads length at p (gives f next ∷ rs) = after length at next p (admit p f) (λ q. judgeReads length next q rs)
 
--- 1 stands before all, at byte 0
+-- SHEET 5: 1 before all, at byte 0
 unfoldable pub judgeSheet : List ℕ → Verdict
 judgeSheet s = cond (leb (length s) 1048576) (judgeReads (length s) 0 start (readsAt s 0)) (refuses-at 1 0)
 
--- ---- what each answer of the code says; no two say the same
+-- ---- what each answer of the code says
 
 abbrev pub judgedSays : Judged → Verdict
 judgedSays (J.Accepted day) = accepts day
 judgedSays (J.Refused number at) = refuses-at number at
-
-abbrev judged-of : Verdict → Judged
-judged-of (accepts day) = J.Accepted day
-judged-of (refuses-at number at) = J.Refused number at
-
-judged-back : (r : Judged) → judged-of (judgedSays r) ≡ r
-judged-back (J.Accepted day) = refl
-judged-back (J.Refused number at) = refl
-
-pub judged-once : {d : Verdict} {x y : Judged} → judgedSays x ≡ d → judgedSays y ≡ d → x ≡ y
-judged-once p q = through judgedSays judged-of judged-back p q

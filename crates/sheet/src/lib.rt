@@ -5,10 +5,9 @@ ghost use Prim.Native.Nat.{_+_, _<_, _≤_};
 ghost use lib.ListN.{length, getD};
 ghost use Rattle.wire.specs.Big.{be2At, be4At};
 ghost use Rattle.admit.specs.Admitting.{start, afterHeader};
-ghost use Rattle.sheet.specs.Fields.{oneIf};
 ghost use Rattle.sheet.specs.Judgement.{atEnd, judgeSheet, judgedSays};
-ghost use Rattle.sheet.specs.Track.{OnTrack};
-ghost use Rattle.sheet.specs.Past.{recordSize, Opened, Nearly};
+ghost use Rattle.sheet.specs.laws.Track.{OnTrack};
+ghost use Rattle.sheet.specs.laws.Past.{recordSize, Opened, Nearly};
 use admit::Admitted;
 use admit::Progress;
 use admit::admit;
@@ -21,7 +20,7 @@ use field::Read;
 use field::layout;
 use field::layout::stands;
 use field::number;
-use reader::shape_at;
+use field_reader::shape_at;
 use right_field::right_header;
 use right_field::right_previous;
 use right_field::right_quote;
@@ -40,13 +39,6 @@ pub struct Day {
 pub enum Judged {
     Accepted(Day),
     Refused(u8, usize),
-}
-
-// 1 where a test holds: what a count adds for a field.
-pub fn one_if(test: bool) -> u64
-    ensures { λ r. ⌜ r ≡ oneIf test ⌝ }
-{
-    if test { 1 } else { 0 }
 }
 
 // Behind a right end no byte may follow.

@@ -3,14 +3,14 @@
 ghost use mathlib.Core.Path.{_≡_};
 ghost use Prim.Native.Nat.{_<_, _≤_};
 ghost use lib.ListN.{length};
-use answers::closings;
-use closing::Closed;
 use libc::STDIN_FILENO;
 use libc::STDOUT_FILENO;
-use lines::put_lines;
-use lines::put_refusal;
+use list_lines::put_lines;
+use list_lines::put_refusal;
+use price_rules::Closed;
 use sheet::Judged;
 use sheet::judge_sheet;
+use six_answers::closings;
 use text::Text;
 
 // A number behind a space.

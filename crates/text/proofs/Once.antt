@@ -1,10 +1,9 @@
 -- Any two outcomes that a function's contract permits are equal: the answer, and every byte of the lent buffer. Assumes nothing.
 use denote.Ref.{now}
-use Rattle.promise.specs.Once.{Once, once}
+use Rattle.promise.specs.Once.{Once}
+use Rattle.promise.specs.laws.Once.{once}
 use Rattle.text.proofs.put_bytes.Reads as put-bytes
 use Rattle.text.proofs.put_bytes.Kinds as put-bytesK
-use Rattle.text.proofs.starts_with.Reads as starts-with
-use Rattle.text.proofs.starts_with.Kinds as starts-withK
 use Rattle.text.proofs.Text.empty.Reads as empty
 use Rattle.text.proofs.Text.empty.Kinds as emptyK
 use Rattle.text.proofs.Text.put.Reads as put
@@ -19,9 +18,6 @@ put-bytes-once κs a x y s t p q = once (p .0) (q .0)
 
 pub put-bytes-leaves-once : Once 2 put-bytesK.ps put-bytesK.r put-bytes.Post (λ κs x s. now (s .0))
 put-bytes-leaves-once κs a x y s t p q = once (p .1) (q .1)
-
-pub starts-with-once : Once 2 starts-withK.ps starts-withK.r starts-with.Post (λ κs x s. x)
-starts-with-once κs a x y s t p q = once p q
 
 pub empty-once : Once 0 emptyK.ps emptyK.r empty.Post (λ κs x s. x)
 empty-once κs a x y s t p q = once p q

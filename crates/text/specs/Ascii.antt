@@ -1,4 +1,4 @@
--- A name as document 01 writes it, in bytes.
+-- The bytes of a name or a line, as it is printed.
 use Prim.Native.Nat.{ℕ}
 use Prim.Native.Char.{code}
 use Prim.Native.String.{String, [], _∷_}

@@ -1,16 +1,13 @@
 -- A text that is put together piece by piece: what it holds, or that a piece did not fit.
-use Prim.Native.Nat.{ℕ, _+_, _-_, _≤_, _<_}
-use mathlib.Core.Path.{_≡_, refl, sym, ap, _∙_}
+use Prim.Native.Nat.{ℕ, _+_, _-_}
+use mathlib.Core.Path.{_≡_}
 use mathlib.Core.Bool.{cond}
-use mathlib.Core.List.{List, [], _∷_, _++_, append-assoc}
-use native.Mathlib.Omega.{arith}
-use native.Mathlib.Decide.{decLe}
+use mathlib.Core.List.{List, _++_}
 use lib.Dec.{leb}
-use lib.ListN.{length, take, replicate, length-append}
-use borrow.Author.Tests.{le-leb, lt-leb}
+use lib.ListN.{length, take, replicate}
 use Rattle.text.specs.Over.{over, putPlace, putBuffer}
 use Rattle.text.specs.declared.Put.{Put}
-use Rattle.text.specs.declared.Put.the-variants.{Next, Full}
+use Rattle.text.specs.declared.Put.the-variants.{Full}
 use Rattle.text.specs.declared.Text.{Text}
 
 -- the bytes, or that there were more than 512
@@ -59,35 +56,3 @@ placeAfter b at TooLong = Full
 abbrev pub bufferAfter : List ℕ → ℕ → Held → List ℕ
 bufferAfter b at (Has s) = putBuffer b at s
 bufferAfter b at TooLong = b
-
--- ---- laws: two pieces one after the other are their join, whether they fit or not
-
-pub fit-yes : (s : List ℕ) → length s ≤ 512 → fit s ≡ Has s
-unfolding fit
-fit-yes s h = simp (le-leb (length s) 512 h)
-
-pub fit-no : (s : List ℕ) → 512 < length s → fit s ≡ TooLong
-unfolding fit
-fit-no s h = simp (lt-leb (length s) 512 h)
-
-fit-join : (a s : List ℕ) → Dec (length a ≤ 512) → fit a ⊕ s ≡ fit (a ++ s)
-unfolding _⊕_
-fit-join a s (yes h) = rw (fit-yes a h) refl
-fit-join a s (no h) = rw (fit-no a (omega arith)) (sym (fit-no (a ++ s) (omega (arith, length-append a s))))
-
-pub fit-⊕ : (a s : List ℕ) → fit a ⊕ s ≡ fit (a ++ s)
-fit-⊕ a s = fit-join a s (decLe (length a) 512)
-
-pub ⊕-⊕ : (h : Held) (s t : List ℕ) → h ⊕ s ⊕ t ≡ h ⊕ (s ++ t)
-unfolding _⊕_
-⊕-⊕ (Has a) s t = fit-⊕ (a ++ s) t ∙ ap fit (append-assoc a s t)
-⊕-⊕ TooLong s t = refl
-
-pub empty-holds : held emptyText ≡ Has []
-unfolding held
-empty-holds = refl
-
--- a text that starts empty holds the pieces, where they have at most 512 bytes
-pub whole : (s : List ℕ) → length s ≤ 512 → Has [] ⊕ s ≡ Has s
-unfolding _⊕_
-whole s h = fit-yes s h

@@ -1,11 +1,9 @@
-// Text that is put together from byte strings and numbers, and put into a lent buffer whole or not at all. Names are byte strings, written by
-// `put` and compared by `starts_with`.
+// Text that is put together from byte strings and numbers, and put into a lent buffer whole or not at all.
 ghost use mathlib.Core.Path.{_≡_};
 ghost use Prim.Native.Nat.{ℕ, _+_, _≤_};
 ghost use lib.ListN.{length};
 ghost use Rattle.text.specs.Over.{over, putPlace, putBuffer};
 ghost use Rattle.text.specs.Held.{Added, emptyText, held, placeAfter, bufferAfter};
-ghost use Rattle.text.specs.Starts.{startsWith};
 ghost use Rattle.text.specs.Decimal.{decimal};
 
 // The place behind what was put; or there is no room for it.
@@ -34,23 +32,6 @@ pub fn put_bytes(buf: &mut [u8], at: usize, s: &[u8]) -> Put
     }
     copy_in(buf, at, s);
     Put::Next(at + s.len())
-}
-
-// The text begins with the name.
-pub fn starts_with(s: &[u8], name: &[u8]) -> bool
-    ensures { λ r. ⌜ r ≡ startsWith (now (name .entry)) (now (s .entry)) ⌝ }
-{
-    let mut i = 0;
-    while i < name.len() {
-        if s.len() <= i {
-            return false;
-        }
-        if s[i] != name[i] {
-            return false;
-        }
-        i += 1;
-    }
-    true
 }
 
 // A text of up to 512 bytes. A len above 512 says that what was put did not fit.

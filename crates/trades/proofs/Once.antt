@@ -1,6 +1,6 @@
 -- Any two results that the contract of `totals` permits are equal. Assumes nothing.
 use Rattle.promise.specs.Once.{Once}
-use Rattle.trades.specs.Laws.{told-once}
+use Rattle.trades.specs.laws.Trades.{told-once}
 use Rattle.trades.proofs.totals.Reads as totals
 use Rattle.trades.proofs.totals.Kinds as totalsK
 

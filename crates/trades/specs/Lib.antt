@@ -1,3 +1,2 @@
 pub mod Trades
-pub mod Laws
-pub mod Pass
+pub mod laws

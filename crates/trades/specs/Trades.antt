@@ -1,5 +1,5 @@
--- The in-window trades of each instrument, over a sheet's fields in sheet order, and their sums: lots, and lots times quoted price. What a
--- contract's VWAP is made of.
+-- RULES 4 and 5: the trades of each instrument that count, over a sheet's fields in sheet order, and their sums: lots, and lots times quoted
+-- price. What a contract's VWAP is made of.
 use Prim.Native.Nat.{ℕ, zero, suc, _+_}
 use mathlib.Core.Path.{_≡_}
 use mathlib.Core.Bool.{Bool, _&&_, cond}
@@ -20,7 +20,7 @@ pub record Deal : Type 0 where
   pub price : ℤ
   pub lots : ℕ
 
--- the instrument is this one, and the time lies in its window
+-- RULES 4: a trade counts for its own instrument, where its time lies in that instrument's window
 unfoldable pub counts : ℕ → ℕ → ℕ → ℕ → Bool
 counts metal i instrument time = eqb instrument i && inWindow (startOf metal i) time
 

@@ -19,18 +19,19 @@ use Rattle.field.specs.declared.Read.the-variants as R
 use Rattle.field.specs.declared.Written.{Written}
 use Rattle.field.specs.declared.Written.the-variants as W
 use Rattle.field.specs.Layout.{bodyBytes}
-use Rattle.field.specs.Said.{gives, readSays, writtenSays, read-once, written-once}
+use Rattle.field.specs.Said.{gives, readSays, writtenSays}
+use Rattle.field.specs.laws.Said.{read-once, written-once}
 use Rattle.field.specs.Reading.{readField, bodyOf}
 use Rattle.field.specs.Writing.{fieldSize, written, over, bufferAfter}
-use Rattle.field.specs.Laws.{body-none, written-ok}
-use Rattle.reader.proofs.read_field.Reads as read-field
-use Rattle.reader.proofs.read_field.Kinds as read-fieldK
-use Rattle.reader.proofs.field_body.Reads as field-body
-use Rattle.reader.proofs.field_body.Kinds as field-bodyK
-use Rattle.writer.proofs.write_field.Reads as write-field
-use Rattle.writer.proofs.write_field.Kinds as write-fieldK
+use Rattle.field.specs.laws.Field.{body-none, written-ok}
+use Rattle.field_reader.proofs.read_field.Reads as read-field
+use Rattle.field_reader.proofs.read_field.Kinds as read-fieldK
+use Rattle.field_reader.proofs.field_body.Reads as field-body
+use Rattle.field_reader.proofs.field_body.Kinds as field-bodyK
+use Rattle.field_writer.proofs.write_field.Reads as write-field
+use Rattle.field_writer.proofs.write_field.Kinds as write-fieldK
 use Rattle.trips.specs.Held.{Counted}
-use Rattle.trips.specs.Around as around
+use Rattle.trips.specs.laws.Around as around
 
 -- `write_field`, lent a buffer that holds b, may answer x and leave the bytes `after`
 pub record Writes (b : List ℕ) (at : ℕ) (f : Field) (x : Written) (after : List ℕ) : Type 0 where

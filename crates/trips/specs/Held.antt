@@ -1,23 +1,12 @@
 -- Values that the wire can carry: each fits the bytes that a field has for it.
 --     Held      each of a field's values fits its bytes
---     Counted   an end's count fits; it has no range in document 01, so no judgement says it
---     held      values that earn no number are held
--- Assumes nothing.
-use Prim.Native.Nat.{ℕ, _≤_, _<_}
-use mathlib.Core.Path.{_≡_}
-use native.Mathlib.Omega.{arith}
-use borrow.Author.Tests.{leb-true}
-use lib.Dec.{leb}
-use lib.IntN.{ℤ, pos, negsuc, natAbs}
-use lib.Signed.{mag}
+--     Counted   an end's count fits; SHEET 3 gives it no range, so no judgement says it
+use Prim.Native.Nat.{_<_}
 use mir.Syntax.{w32}
 use mir.Val.{SFits}
 use Rattle.field.specs.declared.Price.{Price}
 use Rattle.field.specs.declared.Field.{Field}
 use Rattle.field.specs.declared.Field.the-variants.{Header, PreviousClose, Trade, Quote, End}
-use Rattle.field.specs.Judging.{fine, judge}
-use Rattle.field.specs.Laws.{both-true}
-use Rattle.field.specs.Sound.{Sound, sound, price-size, sides-size}
 
 -- a price fits its four bytes
 abbrev pub HeldPrice : Price → Type 0
@@ -38,26 +27,3 @@ Counted (PreviousClose instrument price) = Unit {0}
 Counted (Trade time instrument price lots) = Unit {0}
 Counted (Quote time instrument sides bid offer) = Unit {0}
 Counted (End count) = count < 4294967296
-
--- ---- what is in its range is held
-
--- a price of so few cents fits
-small-held : (price : Price) → natAbs (price .cents) ≤ 99999999 → HeldPrice price
-small-held price h = record { sfits = omega (arith, mag-natAbs (price .cents)) }
-  where
-    mag-natAbs : (z : ℤ) → mag z ≤ natAbs z
-    mag-natAbs (pos n) = omega arith
-    mag-natAbs (negsuc n) = omega arith
-
--- values that earn no number fit their bytes, whatever the time before them
-pub held : (least : ℕ) (f : Field) → Counted f → judge least f ≡ fine → Held f
-held least f c e = by-field f c (sound least f e)
-  where
-    by-field : (f : Field) → Counted f → Sound least f → Held f
-    by-field (Header metal marks) c h = omega (arith, leb-true marks 2047 (both-true _ (leb marks 2047) h .1))
-    by-field (PreviousClose instrument price) c h = small-held price (price-size instrument price (h .1))
-    by-field (Trade time instrument price lots) c h = (omega (arith, h .stamp .in-day), small-held price (price-size instrument price (h .price-in)), omega (arith, h .most))
-    by-field (Quote time instrument sides bid offer) c h =
-        let size = sides-size least time instrument sides bid offer h in
-        (omega (arith, h .stamp .in-day), small-held bid (size .0), small-held offer (size .1))
-    by-field (End count) c h = c

@@ -1,4 +1,2 @@
 pub mod Held
-pub mod Bodies
-pub mod Stands
-pub mod Around
+pub mod laws

@@ -1,6 +1,6 @@
 -- Any two results that the contract of `span_of` permits are equal. Assumes nothing.
 use Rattle.promise.specs.Once.{Once}
-use Rattle.twap.specs.Span.{span-once}
+use Rattle.twap.specs.laws.Span.{span-once}
 use Rattle.twap.proofs.span_of.Reads as span-of
 use Rattle.twap.proofs.span_of.Kinds as span-ofK
 

@@ -1,3 +1,2 @@
 pub mod Span
-pub mod Sizes
-pub mod Walking
+pub mod laws

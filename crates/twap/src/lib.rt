@@ -5,14 +5,14 @@ ghost use lib.IntN.{natAbs};
 ghost use Rattle.sheet.specs.Fields.{fieldsOf};
 ghost use Rattle.indicator.specs.Indicator.{stamp, twapSum};
 ghost use Rattle.twap.specs.Span.{spanOf, spanSays, Accepted};
-ghost use Rattle.twap.specs.Walking.{Stands, withSide};
+ghost use Rattle.twap.specs.laws.Walking.{Stands, withSide};
 use field::Field;
 use field::Read;
+use field_reader::shape_at;
 use indicator::Indicator;
 use indicator::Side;
 use indicator::take_field;
 use market::WINDOW;
-use reader::shape_at;
 
 // A sum of cents.
 pub struct Total {

@@ -1,6 +1,7 @@
 -- Any two outcomes that a function's contract permits are equal: a number joined or split, or a part after a put. Assumes nothing.
 use denote.Ref.{now}
-use Rattle.promise.specs.Once.{Once, once}
+use Rattle.promise.specs.Once.{Once}
+use Rattle.promise.specs.laws.Once.{once}
 use Rattle.wire.proofs.join2.Reads as join2
 use Rattle.wire.proofs.join2.Kinds as join2K
 use Rattle.wire.proofs.join4.Reads as join4

@@ -1,4 +1,4 @@
--- Document 01, "The day sheet": "Numbers are big-endian, prices signed 32-bit cents."
+-- SHEET 1, numbers: big-endian, and prices signed 32-bit cents in two's complement.
 use Prim.Native.Nat.{ℕ, _+_, _*_, _/_, _%_, _<_}
 use mathlib.Core.Bool.{cond}
 use mathlib.Core.List.{List, [], _∷_, _++_}

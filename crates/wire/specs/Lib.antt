@@ -1,2 +1,2 @@
 pub mod Big
-pub mod Trips
+pub mod laws

@@ -1,5 +1,5 @@
 -- `admit::admit` meets its contract. Assumes nothing.
-use Rattle.admit.specs.Laws.{admit-fine, admit-not, passed}
+use Rattle.admit.specs.laws.Admitting.{admit-fine, admit-not, passed}
 use mathlib.Core.Path.{sym, _∙_}
 use borrow.Author.Needs.{needs}
 use Rattle.admit.proofs.admit.Statement.{statement}

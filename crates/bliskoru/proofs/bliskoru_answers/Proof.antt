@@ -1,6 +1,6 @@
 -- `bliskoru::bliskoru_answers` meets its contract. Assumes nothing.
 use borrow.Author.Needs.{needs}
-use Rattle.bliskoru.specs.Told.{six-number, six-byte, six-rows, none-number, none-byte, none-rows}
+use Rattle.bliskoru.specs.laws.Told.{six-number, six-byte, six-rows, none-number, none-byte, none-rows}
 use Rattle.bliskoru.proofs.bliskoru_answers.Statement.{statement}
 use Rattle.bliskoru.proofs.bliskoru_answers.Tie as tie
 

@@ -1,6 +1,6 @@
 -- `bliskoru::bliskoru_judge` meets its contract. Assumes nothing.
 use borrow.Author.Needs.{needs}
-use Rattle.bliskoru.specs.Told.{accepted-number, accepted-byte, refused-number, refused-byte}
+use Rattle.bliskoru.specs.laws.Told.{accepted-number, accepted-byte, refused-number, refused-byte}
 use Rattle.bliskoru.proofs.bliskoru_judge.Statement.{statement}
 use Rattle.bliskoru.proofs.bliskoru_judge.Tie as tie
 

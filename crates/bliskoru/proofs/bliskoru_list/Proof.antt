@@ -1,6 +1,6 @@
 -- `bliskoru::bliskoru_list` meets its contract. Assumes nothing.
 use borrow.Author.Needs.{needs}
-use Rattle.bliskoru.specs.Told.{listed, no-room}
+use Rattle.bliskoru.specs.laws.Told.{listed, no-room}
 use Rattle.bliskoru.proofs.bliskoru_list.Statement.{statement}
 use Rattle.bliskoru.proofs.bliskoru_list.Tie as tie
 

@@ -1,6 +1,6 @@
 -- `bliskoru::bliskoru_read` meets its contract. Assumes nothing.
 use borrow.Author.Needs.{needs}
-use Rattle.bliskoru.specs.Told.{read-number, read-next, read-values, unread-number, unread-next, unread-values}
+use Rattle.bliskoru.specs.laws.Told.{read-number, read-next, read-values, unread-number, unread-next, unread-values}
 use Rattle.bliskoru.proofs.bliskoru_read.Statement.{statement}
 use Rattle.bliskoru.proofs.bliskoru_read.Tie as tie
 

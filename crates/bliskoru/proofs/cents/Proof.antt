@@ -2,7 +2,7 @@
 use borrow.Author.Needs.{needs}
 use mir.Syntax.{w32}
 use mir.Val.{SFits, toZ, ofZ}
-use Rattle.cents.specs.Whole.{Known, fits, back, param-i32}
+use Rattle.cents.specs.laws.Whole.{Known, fits, back, param-i32}
 use Rattle.bliskoru.proofs.cents.Statement.{statement}
 use Rattle.bliskoru.proofs.cents.Tie as tie
 

@@ -3,7 +3,7 @@ use mathlib.Core.Path.{_≡_}
 use borrow.Author.Needs.{needs}
 use mir.Syntax.{w64}
 use mir.Val.{toZ, ofZ}
-use Rattle.cents.specs.Whole.{cast-u32}
+use Rattle.cents.specs.laws.Whole.{cast-u32}
 use Rattle.bliskoru.proofs.listed.Statement.{statement}
 use Rattle.bliskoru.proofs.listed.Tie as tie
 

@@ -1,6 +1,6 @@
 -- `bliskoru::rows_of` meets its contract. Assumes nothing.
 use borrow.Author.Needs.{needs}
-use Rattle.bliskoru.specs.Told.{rows-are}
+use Rattle.bliskoru.specs.laws.Told.{rows-are}
 use Rattle.bliskoru.proofs.rows_of.Statement.{statement}
 use Rattle.bliskoru.proofs.rows_of.Tie as tie
 

@@ -1,6 +1,6 @@
 -- `bliskoru::whole` meets its contract: 32 bits fit 64. Assumes nothing.
 use borrow.Author.Needs.{needs}
-use Rattle.cents.specs.Whole.{cast-u32}
+use Rattle.cents.specs.laws.Whole.{cast-u32}
 use Rattle.bliskoru.proofs.whole.Statement.{statement}
 use Rattle.bliskoru.proofs.whole.Tie as tie
 

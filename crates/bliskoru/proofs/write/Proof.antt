@@ -1,6 +1,6 @@
 -- `bliskoru::write` meets its contract. Assumes nothing.
 use borrow.Author.Needs.{needs}
-use Rattle.bliskoru.specs.Told.{written-number, written-next, unwritten-number, unwritten-next}
+use Rattle.bliskoru.specs.laws.Told.{written-number, written-next, unwritten-number, unwritten-next}
 use Rattle.bliskoru.proofs.write.Statement.{statement}
 use Rattle.bliskoru.proofs.write.Tie as tie
 

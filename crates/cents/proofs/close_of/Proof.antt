@@ -2,7 +2,7 @@
 -- Assumes nothing.
 use native.Mathlib.Omega.{arith}
 use borrow.Author.Needs.{needs}
-use Rattle.cents.specs.Close.{close-in, close-above, close-zero}
+use Rattle.cents.specs.laws.Close.{close-in, close-above, close-zero}
 use Rattle.cents.proofs.close_of.Statement.{statement}
 use Rattle.cents.proofs.close_of.Tie as tie
 

@@ -1,8 +1,8 @@
 -- `cents::rounded_close` meets its contract: a sum below zero is no close, and of any other it says what `rounded_sum` says.
 -- Assumes nothing.
 use native.Mathlib.Omega.{arith}
-use Rattle.cents.specs.Whole.{natural}
-use Rattle.cents.specs.Close.{round-below, round-natural}
+use Rattle.cents.specs.laws.Whole.{natural}
+use Rattle.cents.specs.laws.Close.{round-below, round-natural}
 use Rattle.cents.proofs.rounded_close.Statement.{statement}
 use Rattle.cents.proofs.rounded_close.Tie as tie
 

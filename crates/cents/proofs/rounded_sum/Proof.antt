@@ -3,7 +3,7 @@
 use native.Mathlib.Nat.{zero-mul, mul-zero}
 use native.Mathlib.Omega.{arith}
 use borrow.Author.Needs.{needs}
-use Rattle.cents.specs.Close.{round-none, round-above, round-steps, round-cents, steps-le}
+use Rattle.cents.specs.laws.Close.{round-none, round-above, round-steps, round-cents, steps-le}
 use Rattle.cents.proofs.rounded_sum.Statement.{statement}
 use Rattle.cents.proofs.rounded_sum.Tie as tie
 

@@ -4,7 +4,7 @@ use Prim.Native.Nat.{_*_}
 use native.Mathlib.Nat.{div-le-self}
 use native.Mathlib.Omega.{arith}
 use borrow.Author.Needs.{needs}
-use Rattle.cents.specs.Close.{nearest-down, nearest-up}
+use Rattle.cents.specs.laws.Close.{nearest-down, nearest-up}
 use Rattle.cents.proofs.steps.Statement.{statement}
 use Rattle.cents.proofs.steps.Tie as tie
 

@@ -6,8 +6,8 @@ use lib.ListN.{length, replicate}
 use lib.Seq.{length-take-le}
 use denote.Ref.{now}
 use borrow.Author.Needs.{needs}
-use Rattle.listing.specs.Listing.{listOf}
-use Rattle.text.specs.Over.{next-counts}
+use Rattle.list_lines.specs.Listing.{listOf}
+use Rattle.text.specs.laws.Over.{next-counts}
 use Rattle.closing_list.proofs.print_list.Statement.{statement}
 use Rattle.closing_list.proofs.print_list.Tie as tie
 

@@ -2,10 +2,11 @@
 use mathlib.Core.Path.{_≡_, _∙_}
 use mathlib.Core.List.{[], append-assoc}
 use borrow.Author.Needs.{needs}
-use Rattle.text.specs.Held.{Has, held, _⊕_, ⊕-⊕, empty-holds, whole}
-use Rattle.closing.specs.Says.{closedSays}
-use Rattle.listing.specs.Listing.{listText}
-use Rattle.listing.specs.Laws.{list-length}
+use Rattle.text.specs.Held.{Has, held, _⊕_}
+use Rattle.text.specs.laws.Held.{⊕-⊕, empty-holds, whole}
+use Rattle.price_rules.specs.Says.{closedSays}
+use Rattle.list_lines.specs.Listing.{listText}
+use Rattle.list_lines.specs.laws.Listing.{list-length}
 use Rattle.list.proofs.answers_text.Statement.{statement}
 use Rattle.list.proofs.answers_text.Tie as tie
 

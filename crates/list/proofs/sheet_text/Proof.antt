@@ -4,10 +4,11 @@ use mathlib.Core.Path.{_≡_, sym, ap, _∙_}
 use mathlib.Core.List.{[], _∷_}
 use native.Mathlib.Omega.{arith}
 use borrow.Author.Needs.{needs}
-use Rattle.text.specs.Held.{Has, held, _⊕_, ⊕-⊕, empty-holds, whole}
-use Rattle.listing.specs.Names.{tooLong}
-use Rattle.listing.specs.Listing.{line, listText}
-use Rattle.listing.specs.Laws.{too-long, listed}
+use Rattle.text.specs.Held.{Has, held, _⊕_}
+use Rattle.text.specs.laws.Held.{⊕-⊕, empty-holds, whole}
+use Rattle.names.specs.Names.{tooLong}
+use Rattle.list_lines.specs.Listing.{line, listText}
+use Rattle.list_lines.specs.laws.Listing.{too-long, listed}
 use Rattle.list.proofs.sheet_text.Statement.{statement}
 use Rattle.list.proofs.sheet_text.Tie as tie
 

@@ -2,7 +2,7 @@
 use mathlib.Core.Path.{_≡_, sym}
 use native.Mathlib.Omega.{arith}
 use Rattle.market.specs.Market.{marked}
-use Rattle.market.specs.Laws.{marked-at, marked-above}
+use Rattle.market.specs.laws.Rows.{marked-at, marked-above}
 use borrow.Author.Needs.{needs}
 use Rattle.market.proofs.is_marked.Statement.{statement}
 use Rattle.market.proofs.is_marked.Tie as tie

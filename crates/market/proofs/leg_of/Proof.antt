@@ -1,7 +1,7 @@
 -- `market::leg_of` meets its contract: the table has the row, or it has none. Assumes nothing.
 use native.Mathlib.Omega.{arith}
 use Rattle.market.specs.Market.{legOf}
-use Rattle.market.specs.Laws.{leg-none}
+use Rattle.market.specs.laws.Rows.{leg-none}
 use borrow.Author.Needs.{needs}
 use Rattle.market.proofs.leg_of.Statement.{statement}
 use Rattle.market.proofs.leg_of.Tie as tie

@@ -2,7 +2,7 @@
 use mathlib.Core.Path.{_≡_}
 use native.Mathlib.Omega.{arith}
 use Rattle.market.specs.Market.{metalOf}
-use Rattle.market.specs.Laws.{metal-row, metal-none}
+use Rattle.market.specs.laws.Rows.{metal-row, metal-none}
 use borrow.Author.Needs.{needs}
 use Rattle.market.proofs.metal_of.Statement.{statement}
 use Rattle.market.proofs.metal_of.Tie as tie

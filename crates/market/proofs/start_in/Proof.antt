@@ -1,6 +1,6 @@
 -- `market::start_in` meets its contract. Assumes nothing.
 use borrow.Author.Tests.{eq-eqb, ne-eqb}
-use Rattle.market.specs.Laws.{startIn}
+use Rattle.market.specs.laws.Rows.{startIn}
 use Rattle.market.proofs.start_in.Statement.{statement}
 use Rattle.market.proofs.start_in.Tie as tie
 

@@ -1,6 +1,6 @@
 -- `market::start_of` meets its contract. Assumes nothing.
 use mathlib.Core.Path.{_∙_}
-use Rattle.market.specs.Laws.{start-in}
+use Rattle.market.specs.laws.Rows.{start-in}
 use borrow.Author.Needs.{needs}
 use Rattle.market.proofs.start_of.Statement.{statement}
 use Rattle.market.proofs.start_of.Tie as tie

@@ -1,5 +1,5 @@
 -- `right_field::quote_values` meets its contract. Assumes nothing.
-use Rattle.right_field.specs.Right.{untimed, values-as, quote-values}
+use Rattle.right_field.specs.laws.Right.{untimed, values-as, quote-values}
 use borrow.Author.Needs.{needs}
 use Rattle.right_field.proofs.quote_values.Statement.{statement}
 use Rattle.right_field.proofs.quote_values.Tie as tie

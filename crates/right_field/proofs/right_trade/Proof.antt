@@ -1,8 +1,8 @@
 -- `right_field::right_trade` meets its contract. Assumes nothing.
 use native.Mathlib.Omega.{arith}
 use Rattle.field.specs.Layout.{fieldOf}
-use Rattle.field.specs.Standing.{stands-whole}
-use Rattle.right_field.specs.Right.{right-not, right-by}
+use Rattle.field.specs.laws.Standing.{stands-whole}
+use Rattle.right_field.specs.laws.Right.{right-not, right-by}
 use borrow.Author.Needs.{needs}
 use Rattle.right_field.proofs.right_trade.Statement.{statement}
 use Rattle.right_field.proofs.right_trade.Tie as tie

@@ -1,5 +1,5 @@
 -- `right_field::trade_values` meets its contract. Assumes nothing.
-use Rattle.right_field.specs.Right.{untimed, values-as}
+use Rattle.right_field.specs.laws.Right.{untimed, values-as}
 use borrow.Author.Needs.{needs}
 use Rattle.right_field.proofs.trade_values.Statement.{statement}
 use Rattle.right_field.proofs.trade_values.Tie as tie

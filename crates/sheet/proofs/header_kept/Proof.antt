@@ -1,6 +1,6 @@
 -- `sheet::header_kept` meets its contract. Assumes nothing.
 use borrow.Author.Needs.{needs}
-use Rattle.sheet.specs.Past.{header-room, header-kept}
+use Rattle.sheet.specs.laws.Past.{header-room, header-kept}
 use Rattle.sheet.proofs.header_kept.Statement.{statement}
 use Rattle.sheet.proofs.header_kept.Tie as tie
 

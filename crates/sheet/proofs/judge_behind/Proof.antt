@@ -1,6 +1,6 @@
 -- `sheet::judge_behind` meets its contract. Assumes nothing.
 use borrow.Author.Needs.{needs}
-use Rattle.sheet.specs.Past.{nearly, arrived}
+use Rattle.sheet.specs.laws.Past.{nearly, arrived}
 use Rattle.sheet.proofs.judge_behind.Statement.{statement}
 use Rattle.sheet.proofs.judge_behind.Tie as tie
 

@@ -1,6 +1,6 @@
 -- `sheet::judge_end` meets its contract. Assumes nothing.
 use borrow.Author.Needs.{needs}
-use Rattle.sheet.specs.Past.{end-inside, end-room, end-next}
+use Rattle.sheet.specs.laws.Past.{end-inside, end-room, end-next}
 use Rattle.sheet.proofs.judge_end.Statement.{statement}
 use Rattle.sheet.proofs.judge_end.Tie as tie
 

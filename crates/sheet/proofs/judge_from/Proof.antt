@@ -1,7 +1,7 @@
 -- `sheet::judge_from` meets its contract: each need is a law of the loop, whose premises `search` finds. Assumes nothing.
 use borrow.Author.Needs.{needs}
-use Rattle.sheet.specs.Walk.{left, less-read}
-use Rattle.sheet.specs.Track.{OnTrack, at-refusal, at-room, at-stop, at-last, at-next}
+use Rattle.sheet.specs.laws.Walk.{left, less-read}
+use Rattle.sheet.specs.laws.Track.{OnTrack, at-refusal, at-room, at-stop, at-last, at-next}
 use Rattle.sheet.proofs.judge_from.Statement.{statement}
 use Rattle.sheet.proofs.judge_from.Tie as tie
 

@@ -1,7 +1,7 @@
 -- `sheet::judge_sheet` meets its contract. Assumes nothing.
 use borrow.Author.Needs.{needs}
-use Rattle.sheet.specs.Track.{too-long, at-start}
-use Rattle.sheet.specs.Past.{header-inside, opened}
+use Rattle.sheet.specs.laws.Track.{too-long, at-start}
+use Rattle.sheet.specs.laws.Past.{header-inside, opened}
 use Rattle.sheet.proofs.judge_sheet.Statement.{statement}
 use Rattle.sheet.proofs.judge_sheet.Tie as tie
 

@@ -1,8 +1,8 @@
 -- `sheet::past_closes` meets its contract: each need is a law of the loop. Assumes nothing.
 use borrow.Author.Needs.{needs}
 use native.Mathlib.Omega.{arith}
-use Rattle.sheet.specs.Walk.{left}
-use Rattle.sheet.specs.Past.{Opened, right-whole, close-room, close-next, close-less}
+use Rattle.sheet.specs.laws.Walk.{left}
+use Rattle.sheet.specs.laws.Past.{Opened, right-whole, close-room, close-next, close-less}
 use Rattle.sheet.proofs.past_closes.Statement.{statement}
 use Rattle.sheet.proofs.past_closes.Tie as tie
 

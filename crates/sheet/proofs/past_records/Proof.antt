@@ -1,7 +1,7 @@
 -- `sheet::past_records` meets its contract: each need is a law of the loop. Assumes nothing.
 use borrow.Author.Needs.{needs}
-use Rattle.sheet.specs.Walk.{left}
-use Rattle.sheet.specs.Past.{Nearly, record-room, record-fits, record-less, record-whole, record-next}
+use Rattle.sheet.specs.laws.Walk.{left}
+use Rattle.sheet.specs.laws.Past.{Nearly, record-room, record-fits, record-less, record-whole, record-next}
 use Rattle.sheet.proofs.past_records.Statement.{statement}
 use Rattle.sheet.proofs.past_records.Tie as tie
 

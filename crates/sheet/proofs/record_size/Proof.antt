@@ -1,6 +1,6 @@
 -- `sheet::record_size` meets its contract. Assumes nothing.
 use borrow.Author.Needs.{needs}
-use Rattle.sheet.specs.Past.{size-trade, size-quote, size-none}
+use Rattle.sheet.specs.laws.Past.{size-trade, size-quote, size-none}
 use Rattle.sheet.proofs.record_size.Statement.{statement}
 use Rattle.sheet.proofs.record_size.Tie as tie
 

@@ -1,6 +1,6 @@
 -- `trades::count_in` meets its contract. Assumes nothing.
 use borrow.Author.Needs.{needs}
-use Rattle.trades.specs.Pass.{counted-in, counted-out, counted-by, countedIn}
+use Rattle.trades.specs.laws.Pass.{counted-in, counted-out, counted-by, countedIn}
 use Rattle.trades.proofs.count_in.Statement.{statement}
 use Rattle.trades.proofs.count_in.Tie as tie
 

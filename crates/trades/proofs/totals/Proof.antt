@@ -1,6 +1,6 @@
 -- `trades::totals` meets its contract: an accepted sheet is short, and its values are in their ranges. Assumes nothing.
 use borrow.Author.Needs.{needs}
-use Rattle.trades.specs.Pass.{known-filled, known-short, told-accepted, told-refused}
+use Rattle.trades.specs.laws.Pass.{known-filled, known-short, told-accepted, told-refused}
 use Rattle.trades.proofs.totals.Statement.{statement}
 use Rattle.trades.proofs.totals.Tie as tie
 

@@ -2,7 +2,7 @@
 use mathlib.Core.Path.{ap, _∙_}
 use denote.Ref.{now}
 use Rattle.field.specs.Layout.{tradeOf}
-use Rattle.field.specs.Laws.{part-is}
+use Rattle.field.specs.laws.Field.{part-is}
 use borrow.Author.Needs.{needs}
 use Rattle.trades.proofs.trade_here.Statement.{statement}
 use Rattle.trades.proofs.trade_here.Tie as tie

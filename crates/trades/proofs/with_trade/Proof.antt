@@ -3,7 +3,7 @@ use borrow.Author.Needs.{needs}
 use lib.IntN.{ℤ, pos, _+ℤ_, _*ℤ_}
 use mir.Syntax.{w32, w64}
 use mir.Val.{SFits, toZ, ofZ}
-use Rattle.cents.specs.Whole.{Known, fits, back, plus, times, cast-u16, param, param-i32}
+use Rattle.cents.specs.laws.Whole.{Known, fits, back, plus, times, cast-u16, param, param-i32}
 use Rattle.trades.proofs.with_trade.Statement.{statement}
 use Rattle.trades.proofs.with_trade.Tie as tie
 

@@ -1,7 +1,7 @@
 -- `twap::advance` meets its contract, by the laws of the walk. Assumes nothing.
-use Rattle.sheet.specs.Walk.{left}
+use Rattle.sheet.specs.laws.Walk.{left}
 use borrow.Author.Needs.{needs}
-use Rattle.twap.specs.Walking.{Stands, stands-next, walking}
+use Rattle.twap.specs.laws.Walking.{Stands, stands-next, walking}
 use Rattle.twap.proofs.advance.Statement.{statement}
 use Rattle.twap.proofs.advance.Tie as tie
 

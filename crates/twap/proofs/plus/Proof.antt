@@ -6,8 +6,8 @@ use borrow.Author.Needs.{needs}
 use lib.IntN.{ℤ, _+ℤ_, +ℤ-idr}
 use mir.Syntax.{w32, w64}
 use mir.Val.{toZ, ofZ}
-use Rattle.cents.specs.Whole.{Known, fits, back, param-i32, field, plus}
-use Rattle.twap.specs.Walking.{withSide}
+use Rattle.cents.specs.laws.Whole.{Known, fits, back, param-i32, field, plus}
+use Rattle.twap.specs.laws.Walking.{withSide}
 use Rattle.twap.proofs.plus.Statement.{statement}
 use Rattle.twap.proofs.plus.Tie as tie
 

@@ -1,6 +1,6 @@
 -- `twap::span_of` meets its contract, by the laws of the walk's first step and of the two answers. Assumes nothing.
 use borrow.Author.Needs.{needs}
-use Rattle.twap.specs.Walking.{spanning}
+use Rattle.twap.specs.laws.Walking.{spanning}
 use Rattle.twap.proofs.span_of.Statement.{statement}
 use Rattle.twap.proofs.span_of.Tie as tie
 

@@ -1,6 +1,6 @@
 -- `twap::sum_from` meets its contract, by the laws of the sum. Assumes nothing.
 use Prim.Native.Nat.{_-_, _≤_}
-use Rattle.twap.specs.Walking.{Summing, summing}
+use Rattle.twap.specs.laws.Walking.{Summing, summing}
 use Rattle.twap.proofs.sum_from.Statement.{statement}
 use Rattle.twap.proofs.sum_from.Tie as tie
 

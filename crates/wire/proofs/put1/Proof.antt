@@ -3,7 +3,7 @@ use mathlib.Core.List.{[], _∷_}
 use native.Mathlib.Omega.{arith}
 use mathlib.Core.Path.{sym}
 use denote.Ref.{now}
-use Rattle.wire.specs.Trips.{put-short, put-stored}
+use Rattle.wire.specs.laws.Trips.{put-short, put-stored}
 use borrow.Author.Needs.{needs}
 use Rattle.wire.proofs.put1.Statement.{statement}
 use Rattle.wire.proofs.put1.Tie as tie

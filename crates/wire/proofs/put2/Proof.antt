@@ -3,7 +3,7 @@ use Rattle.wire.specs.Big.{bytes2}
 use native.Mathlib.Omega.{arith}
 use mathlib.Core.Path.{sym}
 use denote.Ref.{now}
-use Rattle.wire.specs.Trips.{put-short, put-stored}
+use Rattle.wire.specs.laws.Trips.{put-short, put-stored}
 use borrow.Author.Needs.{needs}
 use Rattle.wire.proofs.put2.Statement.{statement}
 use Rattle.wire.proofs.put2.Tie as tie

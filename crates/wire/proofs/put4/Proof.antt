@@ -4,7 +4,7 @@ use lib.ListN.{length-set}
 use native.Mathlib.Omega.{arith}
 use mathlib.Core.Path.{sym}
 use denote.Ref.{now}
-use Rattle.wire.specs.Trips.{put-short, put-stored}
+use Rattle.wire.specs.laws.Trips.{put-short, put-stored}
 use borrow.Author.Needs.{needs}
 use Rattle.wire.proofs.put4.Statement.{statement}
 use Rattle.wire.proofs.put4.Tie as tie

@@ -1,6 +1,6 @@
 -- `field::judge::highest` meets its contract. Assumes nothing.
 use borrow.Author.Tests.{ne-eqb}
-use Rattle.field.specs.Ends.{highestPrice}
+use Rattle.field.specs.laws.Ends.{highestPrice}
 use Rattle.field.proofs.judge.highest.Statement.{statement}
 use Rattle.field.proofs.judge.highest.Tie as tie
 

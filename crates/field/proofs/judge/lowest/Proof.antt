@@ -1,6 +1,6 @@
 -- `field::judge::lowest` meets its contract. Assumes nothing.
 use borrow.Author.Tests.{ne-eqb}
-use Rattle.field.specs.Ends.{lowestPrice}
+use Rattle.field.specs.laws.Ends.{lowestPrice}
 use Rattle.field.proofs.judge.lowest.Statement.{statement}
 use Rattle.field.proofs.judge.lowest.Tie as tie
 

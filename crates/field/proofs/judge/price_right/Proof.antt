@@ -1,6 +1,6 @@
 -- `field::judge::price_right` meets its contract: the ends are the instrument's. Assumes nothing.
 use mathlib.Core.Path.{_∙_}
-use Rattle.field.specs.Ends.{price-ends}
+use Rattle.field.specs.laws.Ends.{price-ends}
 use borrow.Author.Needs.{needs}
 use Rattle.field.proofs.judge.price_right.Statement.{statement}
 use Rattle.field.proofs.judge.price_right.Tie as tie

@@ -1,6 +1,6 @@
 -- `field::layout::stands` meets its contract: each test that fails is one of the definition's. Assumes nothing.
 use borrow.Author.Needs.{needs}
-use Rattle.field.specs.Standing.{stands-short, stands-other, stands-told}
+use Rattle.field.specs.laws.Standing.{stands-short, stands-other, stands-told}
 use Rattle.field.proofs.layout.stands.Statement.{statement}
 use Rattle.field.proofs.layout.stands.Tie as tie
 

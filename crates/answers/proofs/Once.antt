@@ -1,8 +1,0 @@
--- Any two results that the contract of `closings` permits are equal. Assumes nothing.
-use Rattle.promise.specs.Once.{Once}
-use Rattle.closing.specs.Says.{closed-once}
-use Rattle.answers.proofs.closings.Reads as closings
-use Rattle.answers.proofs.closings.Kinds as closingsK
-
-pub closings-once : Once 1 closingsK.ps closingsK.r closings.Post (λ κs x s. x)
-closings-once κs a x y s t p q = closed-once p q

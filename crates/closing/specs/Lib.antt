@@ -1,4 +1,0 @@
-pub mod Closing
-pub mod Adding
-pub mod Says
-pub mod Cases

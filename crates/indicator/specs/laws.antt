@@ -1,0 +1,5 @@
+pub mod Indicator
+pub mod Sums
+pub mod Changed
+pub mod Moved
+pub mod Examples

@@ -1,0 +1,90 @@
+-- P4, the worked example of RULES 6: 375 for one minute, 400 for two, 375 for one and 350 for one are 380 on average. Here the sum, 300,000 times that.
+-- Assumes nothing.
+use Prim.Native.Nat.{ℕ, _*_}
+use mathlib.Core.Path.{_≡_, refl, sym, ap, _∙_}
+use mathlib.Core.Bool.{true}
+use mathlib.Core.List.{List, [], _∷_}
+use lib.Dec.{lit≤}
+use lib.IntN.{pos}
+use Rattle.field.specs.declared.Field.{Field}
+use Rattle.field.specs.declared.Field.the-variants.{Trade, Quote}
+use Rattle.market.specs.laws.Rows.{window-length}
+use Rattle.indicator.specs.declared.Indicator.{Indicator}
+use Rattle.indicator.specs.Indicator.{empty, bookFrom, taken, afterFrom, sumFrom, centsAt, twapSum, hasReference}
+use Rattle.indicator.specs.laws.Sums.{sum-none}
+use Rattle.indicator.specs.laws.Indicator.{Reached, reached-none, reached-more, reached-on}
+
+-- the start of Copper's spread window
+abbrev pub start : ℕ
+start = 60000000
+
+-- M1-M2's last trade before the window, and its quotes in it: the bid alone, both, the offer alone, and a lower offer
+abbrev traded : Field
+traded = Trade 59000000 7 (record { cents = pos 375 }) 1
+
+abbrev quoted : ℕ → ℕ → ℕ → ℕ → Field
+quoted time sides bid offer = Quote time 7 sides (record { cents = pos bid }) (record { cents = pos offer })
+
+abbrev rest4 : List Field
+rest4 = quoted 60240000 2 0 350 ∷ []
+
+abbrev rest3 : List Field
+rest3 = quoted 60180000 2 0 450 ∷ rest4
+
+abbrev rest2 : List Field
+rest2 = quoted 60120000 3 400 450 ∷ rest3
+
+abbrev rest1 : List Field
+rest1 = quoted 60060000 1 400 0 ∷ rest2
+
+-- the fields of the day
+abbrev pub day : List Field
+day = traded ∷ rest1
+
+-- the state after one field, two, .., five
+abbrev one : Indicator
+one = taken 7 start empty traded
+
+abbrev two : Indicator
+two = taken 7 start one (quoted 60060000 1 400 0)
+
+abbrev three : Indicator
+three = taken 7 start two (quoted 60120000 3 400 450)
+
+abbrev four : Indicator
+four = taken 7 start three (quoted 60180000 2 0 450)
+
+abbrev five : Indicator
+five = taken 7 start four (quoted 60240000 2 0 350)
+
+-- which the indicator has from each record's time on
+by-one : Reached 7 start 60000000 day one rest1
+by-one = reached-more 7 start day 0 60000000 empty traded rest1 (lit≤ tt) (lit≤ tt) (reached-none 7 start day)
+
+by-two : Reached 7 start 60060000 day two rest2
+by-two = reached-more 7 start day 60000000 60060000 one (quoted 60060000 1 400 0) rest2 (lit≤ tt) (lit≤ tt) by-one
+
+by-three : Reached 7 start 60120000 day three rest3
+by-three = reached-more 7 start day 60060000 60120000 two (quoted 60120000 3 400 450) rest3 (lit≤ tt) (lit≤ tt) by-two
+
+by-four : Reached 7 start 60180000 day four rest4
+by-four = reached-more 7 start day 60120000 60180000 three (quoted 60180000 2 0 450) rest4 (lit≤ tt) (lit≤ tt) by-three
+
+by-five : Reached 7 start 60240000 day five []
+by-five = reached-more 7 start day 60180000 60240000 four (quoted 60240000 2 0 350) [] (lit≤ tt) (lit≤ tt) by-four
+
+pub p4 : twapSum 7 start day ≡ pos (300000 * 380)
+unfolding taken bookFrom
+p4 =
+    ap (sumFrom (centsAt 7 start day) start) window-length
+    ∙ sym (reached-on 7 start day 240000 60000 five [] _ by-five tt
+    (reached-on 7 start day 180000 60000 four rest4 _ by-four (lit≤ tt, tt)
+    (reached-on 7 start day 120000 60000 three rest3 _ by-three (lit≤ tt, (lit≤ tt, tt))
+    (reached-on 7 start day 60000 60000 two rest2 _ by-two (lit≤ tt, (lit≤ tt, (lit≤ tt, tt)))
+    (reached-on 7 start day 0 60000 one rest1 (pos 0) by-one (lit≤ tt, (lit≤ tt, (lit≤ tt, (lit≤ tt, tt))))
+    (sym (sum-none (centsAt 7 start day) start)))))))
+
+-- and there is a reference at the window's first millisecond
+pub p4-reference : hasReference 7 start day ≡ true
+unfolding taken afterFrom
+p4-reference = refl

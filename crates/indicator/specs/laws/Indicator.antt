@@ -1,0 +1,249 @@
+-- Laws of the state over a list of fields: what a pass over a sheet goes by, and when there is a reference.
+--     Rising           previous closes before records, whose times never fall
+--     due, late        a field that counts is taken; fields that all come later change nothing
+--     Reached          a pass that has taken the fields that count at t stands in the state s, with the rest to come
+--     reached-..       it begins, goes on by one field, and has the indicator's state and its sum until the next field
+--     parted           the fields that count at t stand before those that come later, and the state at t is the one after them
+--     reference-told   13's words: a previous close, or a trade of the instrument by then
+-- Assumes nothing.
+use Prim.Native.Nat.{ℕ, suc, _+_, _≤_, _<_}
+use mathlib.Core.Path.{_≡_, refl, sym, ap, subst, _∙_}
+use mathlib.Core.Bool.{Bool, true, false, cond}
+use mathlib.Core.List.{List, [], _∷_, _++_}
+use native.Mathlib.Nat.{le-trans, le-refl}
+use native.Mathlib.Decide.{decLt}
+use native.Mathlib.Omega.{arith}
+use borrow.Author.Tests.{le-leb, lt-leb}
+use lib.Dec.{T, leb, eqb, leb→le, le→leb}
+use lib.IntN.{ℤ, pos, _+ℤ_, _*ℤ_}
+use Rattle.field.specs.declared.Price.{Price}
+use Rattle.field.specs.declared.Field.{Field}
+use Rattle.field.specs.declared.Field.the-variants.{Header, PreviousClose, Trade, Quote, End}
+use Rattle.indicator.specs.declared.Side.{Side}
+use Rattle.indicator.specs.declared.Side.the-variants.{Absent, At}
+use Rattle.indicator.specs.declared.Indicator.{Indicator}
+use Rattle.indicator.specs.Indicator.{empty, present, centsOf, afterTrade, afterClose, afterQuote, elseAt, valueOf, bookFrom, taken, stamp, afterFrom, after, centsAt, sumFrom, hasReference}
+use Rattle.indicator.specs.laws.Sums.{sum-append, sum-const}
+
+-- previous closes before records, whose times never fall, from t on
+abbrev pub Rising : ℕ → List Field → Type 0
+Rising t [] = Unit {0}
+Rising t (Header metal marks ∷ fs) = (t ≡ 0) × Rising t fs
+Rising t (PreviousClose instrument price ∷ fs) = (t ≡ 0) × Rising t fs
+Rising t (Trade time instrument price lots ∷ fs) = (t ≤ time) × Rising time fs
+Rising t (Quote time instrument sides bid offer ∷ fs) = (t ≤ time) × Rising time fs
+Rising t (End count ∷ fs) = Rising t fs
+
+-- an earlier time before them serves too
+pub rising-low : (t u : ℕ) (fs : List Field) → t ≤ u → Rising u fs → Rising t fs
+rising-low t u [] l h = tt
+rising-low t u (Header metal marks ∷ fs) l h = (omega (arith, h .0), rising-low t u fs l (h .1))
+rising-low t u (PreviousClose instrument price ∷ fs) l h = (omega (arith, h .0), rising-low t u fs l (h .1))
+rising-low t u (Trade time instrument price lots ∷ fs) l h = (le-trans l (h .0), h .1)
+rising-low t u (Quote time instrument sides bid offer ∷ fs) l h = (le-trans l (h .0), h .1)
+rising-low t u (End count ∷ fs) l h = rising-low t u fs l h
+
+module _ (i start t : ℕ) where
+  -- the fields of one list, then those of another
+  pub after-append : (s : Indicator) (fs gs : List Field) → afterFrom i start t s (fs ++ gs) ≡ afterFrom i start t (afterFrom i start t s fs) gs
+  unfolding afterFrom
+  after-append s [] gs = refl
+  after-append s (f ∷ fs) gs = after-append (cond (leb (stamp f) t) (taken i start s f) s) fs gs
+
+  -- a field that counts is taken, and one that comes later isn't
+  pub due : (s : Indicator) (f : Field) (fs : List Field) → stamp f ≤ t → afterFrom i start t s (f ∷ fs) ≡ afterFrom i start t (taken i start s f) fs
+  unfolding afterFrom
+  due s f fs h = ap (λ (b : Bool). afterFrom i start t (cond b (taken i start s f) s) fs) (le-leb (stamp f) t h)
+
+  pub not-due : (s : Indicator) (f : Field) (fs : List Field) → t < stamp f → afterFrom i start t s (f ∷ fs) ≡ afterFrom i start t s fs
+  unfolding afterFrom
+  not-due s f fs h = ap (λ (b : Bool). afterFrom i start t (cond b (taken i start s f) s) fs) (lt-leb (stamp f) t h)
+
+  -- one field more, behind the others
+  pub one-more : (fs : List Field) (f : Field) → stamp f ≤ t → after i start t (fs ++ (f ∷ [])) ≡ taken i start (after i start t fs) f
+  unfolding afterFrom
+  one-more fs f h = after-append empty fs (f ∷ []) ∙ due (after i start t fs) f [] h
+
+  -- fields that all come later change nothing
+  pub late : (m : ℕ) (s : Indicator) (fs : List Field) → t < m → Rising m fs → afterFrom i start t s fs ≡ s
+  unfolding afterFrom taken
+  late m s [] l h = refl
+  late m s (Header metal marks ∷ fs) l h = absurd (omega (arith, h .0))
+  late m s (PreviousClose instrument price ∷ fs) l h = absurd (omega (arith, h .0))
+  late m s (Trade time instrument price lots ∷ fs) l h = not-due s (Trade time instrument price lots) fs (omega (arith, h .0)) ∙ late time s fs (omega (arith, h .0)) (h .1)
+  late m s (Quote time instrument sides bid offer ∷ fs) l h = not-due s (Quote time instrument sides bid offer) fs (omega (arith, h .0)) ∙ late time s fs (omega (arith, h .0)) (h .1)
+  late m s (End count ∷ fs) l h = due s (End count) fs (omega arith) ∙ late m s fs l h
+
+-- ---- a pass over the fields
+
+-- from the millisecond t on the state s and the fields rest say what all the fields say
+pub record Reached (i start t : ℕ) (fs : List Field) (s : Indicator) (rest : List Field) : Type 0 where
+  pub same : (u : ℕ) → t ≤ u → after i start u fs ≡ afterFrom i start u s rest
+
+module _ (i start : ℕ) (fs : List Field) where
+  -- no field yet
+  pub reached-none : Reached i start 0 fs empty fs
+  reached-none = record { same = λ u l. refl }
+
+  -- a later millisecond
+  pub reached-later : (t u : ℕ) (s : Indicator) (rest : List Field) → t ≤ u → Reached i start t fs s rest → Reached i start u fs s rest
+  reached-later t u s rest l r = record { same = λ v h. r .same v (le-trans l h) }
+
+  -- one field more, which counts at u
+  pub reached-more : (t u : ℕ) (s : Indicator) (f : Field) (rest : List Field) → t ≤ u → stamp f ≤ u → Reached i start t fs s (f ∷ rest) → Reached i start u fs (taken i start s f) rest
+  reached-more t u s f rest l k r = record { same = λ v h. r .same v (le-trans l h) ∙ due i start v s f rest (le-trans k h) }
+
+  -- until the next field the state is the indicator's
+  pub reached-state : (t u m : ℕ) (s : Indicator) (rest : List Field) → Reached i start t fs s rest → t ≤ u → u < m → Rising m rest → after i start u fs ≡ s
+  reached-state t u m s rest r l h o = r .same u l ∙ late i start u m s rest h o
+
+  -- n milliseconds from t on in which no field falls
+  pub reached-sum : (t n : ℕ) (s : Indicator) (rest : List Field) → Reached i start t fs s rest → Rising (t + n) rest → sumFrom (centsAt i start fs) t n ≡ pos n *ℤ centsOf (valueOf s)
+  reached-sum t n s rest r o = sum-const (centsAt i start fs) t n (centsOf (valueOf s)) (λ j l h. ap (λ (x : Indicator). centsOf (valueOf x)) (reached-state t j (t + n) s rest r l h o))
+
+  -- the same behind the k milliseconds that were summed before
+  pub reached-on : (k n : ℕ) (s : Indicator) (rest : List Field) (sum : ℤ) → Reached i start (start + k) fs s rest → Rising (start + k + n) rest
+      → sum ≡ sumFrom (centsAt i start fs) start k → sum +ℤ pos n *ℤ centsOf (valueOf s) ≡ sumFrom (centsAt i start fs) start (k + n)
+  reached-on k n s rest sum r o e = simp (e, sum-append (centsAt i start fs) start k n, reached-sum (start + k) n s rest r o)
+
+-- ---- fields with rising times part at t
+
+-- every field of the list counts at t
+abbrev pub Counted : ℕ → List Field → Type 0
+Counted t [] = Unit {0}
+Counted t (f ∷ fs) = (stamp f ≤ t) × Counted t fs
+
+-- every field of the list taken
+unfoldable pub allTaken : ℕ → ℕ → Indicator → List Field → Indicator
+allTaken i start s [] = s
+allTaken i start s (f ∷ fs) = allTaken i start (taken i start s f) fs
+
+-- those that count at t, then those that come later
+pub record Parted (t : ℕ) (fs : List Field) : Type 0 where
+  pub early : List Field
+  pub later : List Field
+  pub whole : fs ≡ early ++ later
+  pub counted : Counted t early
+  pub rising : Rising (suc t) later
+
+first-early : (t : ℕ) (f : Field) (fs : List Field) → stamp f ≤ t → Parted t fs → Parted t (f ∷ fs)
+first-early t f fs l p = record {
+  early = f ∷ p .early;
+  later = p .later;
+  whole = ap (λ (gs : List Field). f ∷ gs) (p .whole);
+  counted = (l, p .counted);
+  rising = p .rising;
+}
+
+all-later : (t : ℕ) (fs : List Field) → Rising (suc t) fs → Parted t fs
+all-later t fs h = record { early = []; later = fs; whole = refl; counted = tt; rising = h }
+
+by-time : (t time : ℕ) (f : Field) (fs : List Field) → stamp f ≡ time → (time ≤ t → Parted t fs) → (t < time → Rising (suc t) (f ∷ fs)) → Dec (t < time) → Parted t (f ∷ fs)
+by-time t time f fs e early later (yes l) = all-later t (f ∷ fs) (later l)
+by-time t time f fs e early later (no l) = first-early t f fs (omega arith) (early (omega arith))
+
+pub parted : (t u : ℕ) (fs : List Field) → Rising u fs → Parted t fs
+parted t u [] h = all-later t [] tt
+parted t u (Header metal marks ∷ fs) h = first-early t (Header metal marks) fs (omega arith) (parted t u fs (h .1))
+parted t u (PreviousClose instrument price ∷ fs) h = first-early t (PreviousClose instrument price) fs (omega arith) (parted t u fs (h .1))
+parted t u (Trade time instrument price lots ∷ fs) h = by-time t time (Trade time instrument price lots) fs refl (λ l. parted t time fs (h .1)) (λ l. (l, h .1)) (decLt t time)
+parted t u (Quote time instrument sides bid offer ∷ fs) h = by-time t time (Quote time instrument sides bid offer) fs refl (λ l. parted t time fs (h .1)) (λ l. (l, h .1)) (decLt t time)
+parted t u (End count ∷ fs) h = first-early t (End count) fs (omega arith) (parted t u fs h)
+
+counted-all : (i start t : ℕ) (s : Indicator) (fs : List Field) → Counted t fs → afterFrom i start t s fs ≡ allTaken i start s fs
+unfolding allTaken afterFrom
+counted-all i start t s [] h = refl
+counted-all i start t s (f ∷ fs) h = due i start t s f fs (h .0) ∙ counted-all i start t (taken i start s f) fs (h .1)
+
+-- the state at t is the one after the fields of the first part, in sheet order
+pub parted-state : (i start t : ℕ) (fs : List Field) (p : Parted t fs) → after i start t fs ≡ allTaken i start empty (p .early)
+parted-state i start t fs p =
+    ap (after i start t) (p .whole)
+    ∙ after-append i start t empty (p .early) (p .later)
+    ∙ late i start t (suc t) (after i start t (p .early)) (p .later) (le-refl (suc t)) (p .rising)
+    ∙ counted-all i start t empty (p .early) (p .counted)
+
+-- ---- the reference
+
+-- a previous close of instrument i, or a trade of it at or before t
+unfoldable pub toldBy : ℕ → ℕ → List Field → Bool
+toldBy i t [] = false
+toldBy i t (Header metal marks ∷ fs) = toldBy i t fs
+toldBy i t (PreviousClose instrument price ∷ fs) = cond (eqb instrument i) true (toldBy i t fs)
+toldBy i t (Trade time instrument price lots ∷ fs) = cond (eqb instrument i) (cond (leb time t) true (toldBy i t fs)) (toldBy i t fs)
+toldBy i t (Quote time instrument sides bid offer ∷ fs) = toldBy i t fs
+toldBy i t (End count ∷ fs) = toldBy i t fs
+
+or-false : (b : Bool) → b ≡ cond b true false
+or-false true = refl
+or-false false = refl
+
+close-told : (mine rest : Bool) (s : Indicator) (price : Price) → cond (present (cond mine (afterClose s price) s .reference)) true rest ≡ cond (present (s .reference)) true (cond mine true rest)
+close-told false rest s price = refl
+close-told true rest s price = by-side (s .reference)
+  where
+    by-side : (r : Side) → cond (present (elseAt r price)) true rest ≡ cond (present r) true true
+    by-side Absent = refl
+    by-side (At p) = refl
+
+trade-told : (counts mine rest : Bool) (s : Indicator) (price : Price) → cond (present (cond counts (cond mine (afterTrade s price) s) s .reference)) true rest ≡ cond (present (s .reference)) true (cond mine (cond counts true rest) rest)
+trade-told true true rest s price = by-test (present (s .reference))
+  where
+    by-test : (b : Bool) → true ≡ cond b true true
+    by-test true = refl
+    by-test false = refl
+trade-told true false rest s price = refl
+trade-told false true rest s price = refl
+trade-told false false rest s price = refl
+
+quote-told : (counts mine fills : Bool) (s : Indicator) (sides : ℕ) (bid offer : Price) → cond counts (cond mine (cond fills (afterQuote s sides bid offer) s) s) s .reference ≡ s .reference
+quote-told false mine fills s sides bid offer = refl
+quote-told true false fills s sides bid offer = refl
+quote-told true true false s sides bid offer = refl
+quote-told true true true s sides bid offer = refl
+
+module _ (i start t : ℕ) where
+  reference-from : (s : Indicator) (fs : List Field) → present (afterFrom i start t s fs .reference) ≡ cond (present (s .reference)) true (toldBy i t fs)
+  unfolding afterFrom taken toldBy
+  reference-from s [] = or-false (present (s .reference))
+  reference-from s (Header metal marks ∷ fs) = ap (λ (x : Indicator). present (x .reference)) (due i start t s (Header metal marks) fs (omega arith)) ∙ reference-from s fs
+  reference-from s (PreviousClose instrument price ∷ fs) =
+      ap (λ (x : Indicator). present (x .reference)) (due i start t s (PreviousClose instrument price) fs (omega arith))
+      ∙ reference-from (cond (eqb instrument i) (afterClose s price) s) fs
+      ∙ close-told (eqb instrument i) (toldBy i t fs) s price
+  reference-from s (Trade time instrument price lots ∷ fs) =
+      reference-from (cond (leb time t) (cond (eqb instrument i) (afterTrade s price) s) s) fs
+      ∙ trade-told (leb time t) (eqb instrument i) (toldBy i t fs) s price
+  reference-from s (Quote time instrument sides bid offer ∷ fs) =
+      reference-from (cond (leb time t) (cond (eqb instrument i) (cond (leb (bookFrom start) time) (afterQuote s sides bid offer) s) s) s) fs
+      ∙ ap (λ (x : Side). cond (present x) true (toldBy i t fs)) (quote-told (leb time t) (eqb instrument i) (leb (bookFrom start) time) s sides bid offer)
+  reference-from s (End count ∷ fs) = ap (λ (x : Indicator). present (x .reference)) (due i start t s (End count) fs (omega arith)) ∙ reference-from s fs
+
+  -- there is a reference exactly where there was a previous close, or a trade by then
+  pub reference-told : (fs : List Field) → present (after i start t fs .reference) ≡ toldBy i t fs
+  reference-told fs = reference-from empty fs
+
+pick-mono : (which a b c d : Bool) → (T a → T c) → (T b → T d) → T (cond which a b) → T (cond which c d)
+pick-mono true a b c d f g h = f h
+pick-mono false a b c d f g h = g h
+
+or-mono : (a b c d : Bool) → (T a → T c) → (T b → T d) → T (cond a true b) → T (cond c true d)
+or-mono a b true d f g h = tt
+or-mono true b false d f g h = absurd (f tt)
+or-mono false b false d f g h = g h
+
+told-later : (i t u : ℕ) (fs : List Field) → t ≤ u → T (toldBy i t fs) → T (toldBy i u fs)
+unfolding toldBy
+told-later i t u [] l h = h
+told-later i t u (Header metal marks ∷ fs) l h = told-later i t u fs l h
+told-later i t u (PreviousClose instrument price ∷ fs) l h = pick-mono (eqb instrument i) true (toldBy i t fs) true (toldBy i u fs) (λ x. x) (told-later i t u fs l) h
+told-later i t u (Trade time instrument price lots ∷ fs) l h =
+    pick-mono (eqb instrument i) (cond (leb time t) true (toldBy i t fs)) (toldBy i t fs) (cond (leb time u) true (toldBy i u fs)) (toldBy i u fs)
+    (or-mono (leb time t) (toldBy i t fs) (leb time u) (toldBy i u fs) (λ x. le→leb time u (le-trans (leb→le time t x) l)) (told-later i t u fs l))
+    (told-later i t u fs l) h
+told-later i t u (Quote time instrument sides bid offer ∷ fs) l h = told-later i t u fs l h
+told-later i t u (End count ∷ fs) l h = told-later i t u fs l h
+
+-- a reference at the window's first millisecond is there at each later one
+pub reference-stays : (i start t : ℕ) (fs : List Field) → start ≤ t → T (hasReference i start fs) → T (present (after i start t fs .reference))
+reference-stays i start t fs l h = subst T (sym (reference-told i start t fs)) (told-later i start t fs l (subst T (reference-told i start start fs) h))

@@ -1,0 +1,86 @@
+-- The definitions of the tables at the places where the code stands: a row that is there, a row that isn't, and the two tests.
+-- Assumes nothing.
+use Prim.Native.Nat.{ℕ, zero, suc, _+_, _-_, _/_, _%_, _^_, _≤_, _<_}
+use mathlib.Core.Path.{_≡_, refl, sym, ap, _∙_}
+use mathlib.Core.Bool.{Bool, true, false, cond}
+use mathlib.Core.List.{[]}
+use native.Mathlib.Nat.{div-eq-of-lt, pow-le-pow-right, lt-of-lt-of-le}
+use native.Mathlib.Decide.{decLt}
+use native.Mathlib.Omega.{arith}
+use borrow.Author.Tests.{le-leb, lt-leb, lt-ltb, le-ltb, leb-true, ltb-true}
+use lib.Dec.{leb, ltb, eqb}
+use lib.ListN.{getD, List·getD-eq-default}
+use Rattle.market.specs.declared.Metal.{Metal}
+use Rattle.market.specs.declared.Leg.the-variants.{Outright}
+use Rattle.market.specs.Market.{metals, metalBy, metalOf, contracts, contractBy, contractOf, instruments, rowLeg, legOf, startOf, windowLength, inWindow, marked}
+
+-- the number itself, for a proof that asks for it
+pub window-length : windowLength ≡ 300000
+unfolding windowLength
+window-length = refl
+
+-- a metal's row as the code counts, and a metal with no row
+pub metal-row : (m : ℕ) → 0 < m → metalBy (getD metals (m - 1) []) ≡ metalOf m
+unfolding metalOf
+metal-row zero h = absurd (omega arith)
+metal-row (suc m) h = let e : suc m - 1 ≡ m = omega arith in ap (λ (k : ℕ). metalBy (getD metals k [])) e
+
+pub metal-none : (m : ℕ) → 5 < m → metalBy [] ≡ metalOf m
+metal-none m h = let e : 5 ≤ m - 1 = omega arith in sym (ap metalBy (List·getD-eq-default metals [] e)) ∙ metal-row m (omega arith)
+
+pub contract-none : (c : ℕ) → 6 ≤ c → contractBy [] ≡ contractOf c
+unfolding contractOf
+contract-none c h = sym (ap contractBy (List·getD-eq-default contracts [] h))
+
+pub leg-none : (i : ℕ) → 12 ≤ i → Outright ≡ legOf i
+unfolding legOf
+leg-none i h = sym (ap rowLeg (List·getD-eq-default instruments [] h))
+
+-- an instrument's start by the row of its metal
+unfoldable pub startIn : Metal → ℕ → ℕ
+startIn row i = cond (eqb i 0) (row .anchor) (row .spread)
+
+pub start-in : (metal i : ℕ) → startIn (metalOf metal) i ≡ startOf metal i
+unfolding startIn startOf
+start-in metal i = refl
+
+-- a time before the start, and one from it on
+pub window-before : (start time : ℕ) → time < start → inWindow start time ≡ false
+unfolding inWindow
+window-before start time h = simp (lt-leb start time h)
+
+pub window-from : (start time : ℕ) → start ≤ time → inWindow start time ≡ ltb (time - start) 300000
+unfolding inWindow
+window-from start time h = simp (le-leb start time h) (by-test (decLt (time - start) 300000))
+  where
+    by-test : Dec (time - start < 300000) → ltb time (start + windowLength) ≡ ltb (time - start) 300000
+    by-test (yes l) = lt-ltb time (start + windowLength) (omega (arith, window-length)) ∙ sym (lt-ltb (time - start) 300000 l)
+    by-test (no l) = le-ltb time (start + windowLength) (omega (arith, window-length)) ∙ sym (le-ltb (time - start) 300000 (omega arith))
+
+-- what the test says
+pub window-told : (start time : ℕ) → inWindow start time ≡ true → (start ≤ time) × (time < start + windowLength)
+unfolding inWindow
+window-told start time e = by-first (leb start time) refl
+  where
+    by-first : (b : Bool) → leb start time ≡ b → (start ≤ time) × (time < start + windowLength)
+    by-first true h = (leb-true start time h, ltb-true time (start + windowLength) (simp h at e))
+    by-first false h = let z : _≡_ {A = ℕ} 0 1 = cc in absurd (omega arith)
+
+pub window-in : (start time : ℕ) → start ≤ time → time < start + windowLength → inWindow start time ≡ true
+unfolding inWindow
+window-in start time l h = simp (le-leb start time l, lt-ltb time (start + windowLength) h)
+
+pub window-behind : (start time : ℕ) → start + windowLength ≤ time → inWindow start time ≡ false
+unfolding inWindow
+window-behind start time h = simp (le-leb start time (omega arith), le-ltb time (start + windowLength) h)
+
+-- the mark of a spread as the code counts; no u16 has a bit above 15
+pub marked-at : (marks i : ℕ) → (i ≡ 0 → ⊥) → marked marks i ≡ eqb (marks / 2 ^ (i - 1) % 2) 1
+unfolding marked
+marked-at marks zero h = absurd (h refl)
+marked-at marks (suc i) h = let e : suc i - 1 ≡ i = omega arith in ap (λ (k : ℕ). eqb (marks / 2 ^ k % 2) 1) (sym e)
+
+pub marked-above : (marks i : ℕ) → marks < 65536 → 16 < i → marked marks i ≡ false
+marked-above marks i m h =
+    let small : marks < 2 ^ (i - 1) = lt-of-lt-of-le m (pow-le-pow-right {n = 2} (omega arith) {i = 16} {j = i - 1} (omega arith)) in
+    marked-at marks i (λ e. omega arith) ∙ simp (div-eq-of-lt small)

@@ -1,0 +1,3 @@
+pub mod Adding
+pub mod Says
+pub mod Cases

@@ -1,0 +1,9 @@
+pub mod Judgement
+pub mod Walk
+pub mod Passes
+pub mod Led
+pub mod Accepted
+pub mod Encoding
+pub mod Earned
+pub mod Track
+pub mod Past

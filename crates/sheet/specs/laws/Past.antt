@@ -1,0 +1,217 @@
+-- Laws of going past right fields: a header, then closes, then records, each found by its bytes alone, and then a right end.
+--     Opened    on the way, behind the header, no record yet
+--     Nearly    on the way as soon as the last time is one of the day: times never fall, so then all before it are
+-- The premises are the facts as they stand in the code. Assumes nothing.
+use Prim.Native.Nat.{ℕ, _+_, _<_, _≤_}
+use mathlib.Core.Path.{_≡_, refl, sym, ap, _∙_}
+use mathlib.Core.Bool.{Bool, true, false, cond}
+use mathlib.Core.List.{List}
+use native.Mathlib.Omega.{arith}
+use borrow.Author.Tests.{le-leb, eq-eqb}
+use lib.Dec.{leb}
+use lib.ListN.{length, getD, take, drop}
+use mir.Syntax.{w64}
+use mir.Val.{Fits}
+use Rattle.wire.specs.Big.{be2At, be4At}
+use Rattle.field.specs.declared.Field.{Field}
+use Rattle.field.specs.Said.{gives}
+use Rattle.field.specs.Judging.{fine, both, judge}
+use Rattle.field.specs.Layout.{lengthOf, sizeOf, fieldOf}
+use Rattle.field.specs.Reading.{bodyAt, shapeAt}
+use Rattle.field.specs.laws.Field.{both-true, unless-passed}
+use Rattle.field.specs.laws.Standing.{stands, stands-whole, Stood, stood, stood-shape, fieldAt, body-number, body-first, body-second}
+use Rattle.right_field.specs.laws.Right.{untimed, rightAt, Right, right, Timely, timed}
+use Rattle.admit.specs.declared.Progress.{Progress}
+use Rattle.admit.specs.Admitting.{start, previousPlaced, placed, countNumber, afterHeader, afterPrevious, afterRecord, goes, admitted, admit}
+use Rattle.admit.specs.laws.Admitting.{passed-taken}
+use Rattle.sheet.specs.Judgement.{Verdict, atEnd, judgeSheet}
+use Rattle.sheet.specs.laws.Walk.{left, shape-grows}
+use Rattle.sheet.specs.laws.Track.{OnTrack, at-start, on-room, on-last, on-next}
+
+-- a field whose values earn no number is taken where it has its place
+takes : (p : Progress) (f : Field) → p .count < 1048576 → judge (p .time) f ≡ fine → placed p f ≡ true → countNumber p f ≡ fine → admit p f ≡ admitted p f
+takes p f room values place counted = passed-taken p f (record { room = room; place = place; values = values; counted = counted })
+
+-- the bytes of a right field are in the sheet
+pub right-whole : (s : List ℕ) (at tag : ℕ) {t : Bool} → t ≡ rightAt s at tag → t ≡ true → at + sizeOf tag ≤ length s
+right-whole s at tag e h = stands-whole s at tag refl (both-true (stands s at tag) _ (sym e ∙ h) .0)
+
+-- ---- a header, and the closes behind it
+
+pub record Opened (s : List ℕ) (at : ℕ) (p : Progress) : Type 0 where
+  pub track : OnTrack s at p
+  pub first : p .stage ≡ 1
+
+header-goes : (s : List ℕ) → Right s 0 1 → admit start (fieldAt s 0 1) ≡ goes (afterHeader start (getD s 3 0) (be2At s 4))
+unfolding fieldOf untimed placed countNumber admitted
+header-goes s r =
+    takes start (fieldAt s 0 1) (omega arith) (r .values) refl refl
+    ∙ rw (body-first s 0 3 (omega arith), body-second s 0 3 (omega arith))
+
+pub header-inside : (s : List ℕ) {t : Bool} → t ≡ rightAt s 0 1 → t ≡ true → 6 ≤ length s
+header-inside s e h = right-whole s 0 1 e h
+
+-- what is kept behind it
+pub header-room : {p : Progress} → p ≡ start → p .count < 1048576
+header-room e = rw e (omega arith)
+
+pub header-kept : (s : List ℕ) {p q : Progress} {marks : ℕ} → p ≡ start → marks ≡ be2At s 4 → q ≡ afterHeader p (getD s 3 0) marks → q ≡ afterHeader start (getD s 3 0) (be2At s 4)
+header-kept s b m k = k ∙ rw (b, m)
+
+pub opened : (s : List ℕ) {t : Bool} {p : Progress} → t ≡ rightAt s 0 1 → t ≡ true → length s ≤ 1048576 → p ≡ afterHeader start (getD s 3 0) (be2At s 4) → Opened s 6 p
+unfolding both
+opened s e h small k =
+    let r = right s 0 1 refl (sym e ∙ h) in
+    rw k (record { track = on-next s 0 start (at-start s refl small) (stood-shape s 0 1 (r .stands-there)) (header-goes s r); first = refl })
+
+module _ (s : List ℕ) (at : ℕ) (p : Progress) (o : Opened s at p) {t : Bool} (e : t ≡ rightAt s at 2) (h : t ≡ true) where
+  close-right : Right s at 2
+  unfolding both
+  close-right = right s at 2 refl (sym e ∙ h)
+
+  pub close-room : p .count < 1048576
+  close-room = on-room s at p (o .track) (stood-shape s at 2 (close-right .stands-there))
+
+  module _ {u : Bool} (k : u ≡ previousPlaced p (getD s (at + 3) 0)) (l : u ≡ true) where
+    close-goes : admit p (fieldAt s at 2) ≡ goes (afterPrevious p (getD s (at + 3) 0))
+    unfolding fieldOf placed countNumber admitted
+    close-goes =
+        let same = body-first s at 5 (omega arith) in
+        takes p (fieldAt s at 2) close-room (timed (p .time) (fieldAt s at 2) (close-right .values) tt) (ap (previousPlaced p) same ∙ sym k ∙ l) refl
+        ∙ ap (λ (i : ℕ). goes (afterPrevious p i)) same
+
+    pub close-next : {q : Progress} → q ≡ afterPrevious p (getD s (at + 3) 0) → Opened s (at + 8) q
+    close-next z = rw z (record { track = on-next s at p (o .track) (stood-shape s at 2 (close-right .stands-there)) close-goes; first = refl })
+
+  pub close-less : left s (at + 8) < left s at
+  close-less = omega (arith, right-whole s at 2 e h)
+
+-- ---- records
+
+-- what stands there, by its size
+unfoldable pub recordSize : List ℕ → ℕ → ℕ
+recordSize s at = cond (rightAt s at 3) 14 (cond (rightAt s at 4) 17 0)
+
+pub record Recorded (s : List ℕ) (at size : ℕ) : Type 0 where
+  pub field : Field
+  pub shape : shapeAt s at ≡ gives field (at + size)
+  pub next : (p : Progress) → p .time ≤ be4At s (at + 3) → be4At s (at + 3) ≤ 86399999 → 1 ≤ p .stage → p .count < 1048576 → admit p field ≡ goes (afterRecord p (be4At s (at + 3)))
+
+-- of a tag whose field has its place behind the header, counts nothing and begins with its time
+recorded-at : (s : List ℕ) (at tag : ℕ) → Right s at tag → 4 ≤ lengthOf tag
+    → ((p : Progress) → placed p (fieldAt s at tag) ≡ leb 1 (p .stage))
+    → ((p : Progress) → countNumber p (fieldAt s at tag) ≡ fine)
+    → ((p : Progress) → admitted p (fieldAt s at tag) ≡ goes (afterRecord p (be4At (bodyAt s at tag) 0)))
+    → ((least : ℕ) → least ≤ be4At (bodyAt s at tag) 0 → be4At (bodyAt s at tag) 0 ≤ 86399999 → Timely least (fieldAt s at tag))
+    → Recorded s at (sizeOf tag)
+recorded-at s at tag r long place none after timely =
+    let f = fieldAt s at tag in
+    let same = body-number s at (lengthOf tag) long in
+    record {
+      field = f;
+      shape = stood-shape s at tag (r .stands-there);
+      next = λ p l d stage room. takes p f room (timed (p .time) f (r .values) (timely (p .time) (rw same l) (rw same d))) (place p ∙ le-leb 1 (p .stage) stage) (none p) ∙ after p ∙ ap (λ (t : ℕ). goes (afterRecord p t)) same;
+    }
+
+trade-recorded : (s : List ℕ) (at : ℕ) → Right s at 3 → Recorded s at 14
+unfolding fieldOf placed countNumber admitted
+trade-recorded s at r = recorded-at s at 3 r (omega arith) (λ p. refl) (λ p. refl) (λ p. refl) (λ least l d. (l, d))
+
+quote-recorded : (s : List ℕ) (at : ℕ) → Right s at 4 → Recorded s at 17
+unfolding fieldOf placed countNumber admitted
+quote-recorded s at r = recorded-at s at 4 r (omega arith) (λ p. refl) (λ p. refl) (λ p. refl) (λ least l d. (l, d))
+
+recorded : (s : List ℕ) (at : ℕ) {size : ℕ} → size ≡ recordSize s at → (size ≡ 0 → ⊥) → Recorded s at size
+unfolding recordSize both
+recorded s at {size} e some = by-test (rightAt s at 3) (rightAt s at 4) refl refl e
+  where
+    by-test : (t q : Bool) → rightAt s at 3 ≡ t → rightAt s at 4 ≡ q → size ≡ cond t 14 (cond q 17 0) → Recorded s at size
+    by-test true q h k z = rw z (trade-recorded s at (right s at 3 refl h))
+    by-test false true h k z = rw z (quote-recorded s at (right s at 4 refl k))
+    by-test false false h k z = absurd (some z)
+
+-- which of them it is, as the code has it
+module _ (s : List ℕ) (at : ℕ) {t : Bool} (e : t ≡ rightAt s at 3) where
+  pub size-trade : t ≡ true → 14 ≡ recordSize s at
+  unfolding recordSize
+  size-trade h = rw (sym e ∙ h)
+
+  module _ (h : t ≡ false) {q : Bool} (k : q ≡ rightAt s at 4) where
+    pub size-quote : q ≡ true → 17 ≡ recordSize s at
+    unfolding recordSize
+    size-quote l = rw (sym e ∙ h, sym k ∙ l)
+
+    pub size-none : q ≡ false → 0 ≡ recordSize s at
+    unfolding recordSize
+    size-none l = rw (sym e ∙ h, sym k ∙ l)
+
+pub record Nearly (s : List ℕ) (at : ℕ) (p : Progress) : Type 0 where
+  pub small : length s ≤ 1048576
+  pub within : at ≤ length s
+  pub counts : p .count ≤ at
+  pub later : 1 ≤ p .stage
+  pub track : p .time ≤ 86399999 → OnTrack s at p
+
+pub nearly : {s : List ℕ} {at : ℕ} {p : Progress} → Opened s at p → Nearly s at p
+nearly o = record { small = o .track .small; within = o .track .within; counts = o .track .counts; later = omega (arith, o .first); track = λ d. o .track }
+
+module _ (s : List ℕ) (at : ℕ) (p : Progress) (o : Nearly s at p) {size : ℕ} (e : size ≡ recordSize s at) (some : size ≡ 0 → ⊥) where
+  record-grows : (at < at + size) × (at + size ≤ length s)
+  record-grows = shape-grows s at (recorded s at e some .shape)
+
+  pub record-room : p .count < 1048576
+  record-room = omega (arith, record-grows, o .small, o .counts)
+
+  pub record-fits : Fits w64 (at + size)
+  record-fits = record { fits = omega (arith, record-grows, o .small) }
+
+  pub record-less : left s (at + size) < left s at
+  record-less = omega (arith, record-grows)
+
+  -- the shortest record has fourteen bytes
+  pub record-whole : at + 7 ≤ length s
+  unfolding recordSize
+  record-whole = by-test (rightAt s at 3) (rightAt s at 4) e
+    where
+      by-test : (t q : Bool) → size ≡ cond t 14 (cond q 17 0) → at + 7 ≤ length s
+      by-test true q z = omega (arith, record-grows .1, z)
+      by-test false true z = omega (arith, record-grows .1, z)
+      by-test false false z = absurd (some z)
+
+  pub record-next : {time : ℕ} {q : Progress} → time ≡ be4At s (at + 3) → p .time ≤ time → q ≡ afterRecord p time → Nearly s (at + size) q
+  record-next {time} {q} w l k =
+      let r = recorded s at e some in
+      let g = record-grows in
+      rw k
+      (record {
+        small = o .small;
+        within = g .1;
+        counts = omega (arith, o .counts, g .0);
+        later = omega arith;
+        track = λ d. on-next s at p (o .track (omega (arith, l, d))) (r .shape) (r .next p (rw w at l) (rw w at d) (o .later) record-room ∙ ap (λ (t : ℕ). goes (afterRecord p t)) (sym w));
+      })
+
+-- on the way, and behind the header, once the last time is known to be one of the day
+pub arrived : {s : List ℕ} {at : ℕ} {p : Progress} → Nearly s at p → p .time ≤ 86399999 → OnTrack s at p × (1 ≤ p .stage)
+arrived o d = (o .track d, o .later)
+
+-- ---- the end
+
+module _ (s : List ℕ) (at : ℕ) (p : Progress) (o : OnTrack s at p) (later : 1 ≤ p .stage) {t : Bool} (e : t ≡ stands s at 5) (h : t ≡ true) where
+  end-stood : Stood s at 5
+  unfolding both
+  end-stood = stood s at 5 refl (sym e ∙ h)
+
+  pub end-inside : at + 7 ≤ length s
+  end-inside = stands-whole s at 5 e h
+
+  pub end-room : p .count < 1048576
+  end-room = on-room s at p o (stood-shape s at 5 end-stood)
+
+  pub end-next : {count : ℕ} {x : Verdict} → count ≡ be4At s (at + 3) → count ≡ p .count → x ≡ atEnd (length s) (at + 7) p → x ≡ judgeSheet s
+  unfolding fieldOf judge placed countNumber admitted
+  end-next w c z =
+      let same : be4At (take 4 (drop (at + 3) s)) 0 ≡ p .count = body-number s at 4 (omega arith) ∙ sym w ∙ c in
+      on-last s at p o (stood-shape s at 5 end-stood)
+      (takes p (fieldAt s at 5) end-room refl (le-leb 1 (p .stage) later) (unless-passed _ 12 fine (eq-eqb _ _ same)))
+      z

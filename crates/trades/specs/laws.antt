@@ -1,0 +1,3 @@
+pub mod Trades
+pub mod Pass
+pub mod Rowed

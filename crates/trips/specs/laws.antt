@@ -1,0 +1,4 @@
+pub mod Held
+pub mod Bodies
+pub mod Stands
+pub mod Around
