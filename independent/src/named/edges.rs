@@ -1,7 +1,7 @@
 //! The windows' edges for every metal, the steps, and the ends of the range of
 //! closes.
 
-use super::{case, copper_until, flat, flat_of, lines, NamedCase, ANCHOR, COPPER, SPREAD};
+use super::{case, copper, copper_until, flat, flat_of, lines, NamedCase, ANCHOR, COPPER, SPREAD};
 use crate::draft::{close, ended_sheet, header, trade};
 use crate::field::Field;
 
@@ -12,6 +12,8 @@ pub(super) fn cases() -> Vec<NamedCase> {
     cases.extend(outright_ends());
     cases.extend(spread_ends());
     cases.extend(near_one_cent());
+    cases.extend(closes_of_zero());
+    cases.extend(ends_of_m4());
     cases
 }
 
@@ -163,5 +165,51 @@ fn near_one_cent() -> Vec<NamedCase> {
         case("C14 M3 at half a cent", at_half, &spread_list(low, "VWAP 1 10")),
         case("C14 M3 at 5/11 of a cent", below_half, &stopped("11")),
         case("C14 M3 at minus half a cent", minus_half, &stopped("10")),
+    ]
+}
+
+/// 14 for M2, M4, M1 and Cash at exactly 0, and the price of 1 cent: five lots
+/// of one spread on a leg at 900,000.
+fn closes_of_zero() -> Vec<NamedCase> {
+    const FLAT: &str = "TWAP 900000 0";
+    let at = |spread: u8, price: i32| flat(&[trade(SPREAD, spread, price, 5)]);
+    let stopped = "refused 14 5";
+    let cent = "VWAP 1 5";
+    let on_cent = "TWAP 1 0";
+    let m2 = copper_until(&[FLAT, FLAT, stopped]);
+    let m4 = copper_until(&[FLAT, FLAT, FLAT, stopped]);
+    let m1 = copper_until(&[FLAT, FLAT, FLAT, FLAT, stopped]);
+    let cash = copper_until(&[FLAT, FLAT, FLAT, FLAT, FLAT, stopped]);
+    vec![
+        case("M2 at 0", at(3, -900_000), &m2),
+        case("M2 at 0 by the other spread", at(2, -900_000), &m2),
+        case("M2 at 1", at(3, -899_999), &copper([FLAT, FLAT, cent, FLAT, on_cent, on_cent])),
+        case("M4 at 0", at(5, 900_000), &m4),
+        case("M4 at 0 by the third spread", at(6, 900_000), &m4),
+        case("M4 at 1", at(5, 899_999), &copper([FLAT, FLAT, FLAT, cent, FLAT, FLAT])),
+        case("M1 at 0", at(7, -900_000), &m1),
+        case("M1 at 1", at(7, -899_999), &copper([FLAT, FLAT, FLAT, FLAT, cent, on_cent])),
+        case("Cash at 0", at(11, -900_000), &cash),
+        case("Cash at 1", at(11, -899_999), &copper([FLAT, FLAT, FLAT, FLAT, FLAT, cent])),
+    ]
+}
+
+/// M4 at both ends by TWAP: M3-M4 closed at this on 3M, M3 and M2 at that.
+fn ends_of_m4() -> Vec<NamedCase> {
+    let sheet = |outright: i32, spread: i32| {
+        let closes = [close(0, outright), close(1, 0), close(3, 0), close(5, spread)];
+        let mut fields = vec![header(COPPER, 0)];
+        fields.extend(closes);
+        ended_sheet(&fields)
+    };
+    let high = "TWAP 99999950 0";
+    let low = "TWAP 50 0";
+    let stopped = |leg: &str| copper_until(&[leg, leg, leg, "refused 14 0"]);
+    let priced = |leg: &str, m4: &str| copper_until(&[leg, leg, leg, m4, "refused 13 0"]);
+    vec![
+        case("M4 at 100,000,000", sheet(99_999_950, -50), &stopped(high)),
+        case("M4 at 99,999,999", sheet(99_999_950, -49), &priced(high, "TWAP 99999999 0")),
+        case("M4 at 0 by TWAP", sheet(50, 50), &stopped(low)),
+        case("M4 at 1 by TWAP", sheet(50, 49), &priced(low, "TWAP 1 0")),
     ]
 }

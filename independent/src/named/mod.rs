@@ -4,6 +4,7 @@
 
 mod edges;
 mod fields;
+mod longest;
 mod order;
 mod papers;
 mod pricing;
@@ -116,8 +117,20 @@ pub fn named_cases() -> Vec<NamedCase> {
     cases.extend(signs::cases());
     cases.extend(pricing::cases());
     cases.extend(papers::cut_nickel_sheets());
-    cases.push(full_case("a sheet of 65,536 bytes", 4_661, 13));
+    cases.extend(at_the_lists_limit());
     cases
+}
+
+/// Sheets as long as the program lists, whole and without their end (which
+/// would be the 4,684th field), and one byte longer.
+fn at_the_lists_limit() -> Vec<NamedCase> {
+    let mut open = full_sheet(4_670, 6);
+    open.truncate(65_536);
+    vec![
+        refused("B2 a sheet of 65,536 bytes without its end", open, 2, 65_536),
+        case("D1 a sheet of 65,537 bytes", full_sheet(4_672, 4), "too long\n"),
+        full_case("D1 a sheet of 65,536 bytes", 4_661, 13),
+    ]
 }
 
 /// The flat Copper sheet (61 bytes) with so many trades of 10,000 lots at 10
@@ -140,10 +153,12 @@ fn full_case(name: &str, trades: usize, quotes: usize) -> NamedCase {
 /// program's own limit; the program prints `too long` for each.
 pub fn large_cases() -> Vec<NamedCase> {
     let garbage = vec![0xFF; 1_048_577];
-    vec![
-        full_case("a sheet of 65,537 bytes", 4_672, 4),
-        full_case("a sheet of 1,048,576 bytes", 74_883, 9),
+    let mut cases = vec![
+        full_case("B18 a sheet of 65,537 bytes", 4_672, 4),
+        full_case("B18 a sheet of 1,048,576 bytes", 74_883, 9),
         refused("B17 a good sheet of 1,048,577 bytes", full_sheet(74_894, 0), 1, 0),
         refused("B17 a bad first tag and 1,048,577 bytes", garbage, 1, 0),
-    ]
+    ];
+    cases.extend(longest::cases());
+    cases
 }
