@@ -1,8 +1,10 @@
 //! Asks the proved library and the independent program for the list, the judgement, the answers and the fields of many sheets made from a
-//! seed, and stops at the first difference with that sheet in hexadecimal. A sheet depends on the seed, its number and its kind only.
+//! seed, and stops at the first difference with that sheet in hexadecimal. A sheet depends on the seed, its number and its kind only. Before
+//! them come the named cases, the longest sheets among them, whose answers are written by hand.
 
 #![forbid(unsafe_code)]
 
+mod named;
 mod same;
 mod sheets;
 mod tally;
@@ -15,7 +17,7 @@ use std::thread;
 use tally::Tally;
 
 const USAGE: &str = "usage:
-  compare SEED ACCEPTED DAMAGED        compare on so many sheets of each kind
+  compare SEED ACCEPTED DAMAGED        compare on the named cases, and on so many sheets of each kind
   compare SEED ACCEPTED DAMAGED TIMES  the same for so many seeds from this one on, a line each, and a line for all
 ";
 
@@ -43,6 +45,7 @@ fn run(words: &[String]) -> Result<(), String> {
 }
 
 fn row_of_seeds(first: u64, accepted: u64, damaged: u64, times: u64) -> Result<(), String> {
+    println!("{} named cases as they are written by hand", named::hold()?);
     let mut all = Tally::default();
     for seed in first..first + times {
         let tally = compare(&Plan { seed, accepted, damaged })?;
