@@ -14,9 +14,12 @@
 //! * [`laws`]      shifted and turned sheets
 //! * [`holds`]     do printed lists of such sheets obey the laws
 //! * [`stream`]    many sheets in one stream, and the answers to them
+//! * [`sheet_cases`] sheets written as digits, and what is said of each
+//! * [`field_cases`] single fields read, written and walked over
 
 pub mod draft;
 pub mod field;
+pub mod field_cases;
 pub mod generator;
 pub mod holds;
 pub mod indicator;
@@ -26,6 +29,7 @@ pub mod named;
 pub mod pricing;
 pub mod random;
 pub mod sheet;
+pub mod sheet_cases;
 pub mod stream;
 pub mod tables;
 

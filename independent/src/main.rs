@@ -1,11 +1,13 @@
 //! The commands: a closing list, streams of cases, and the answers to them.
 
+use independent::field_cases::field_cases;
 use independent::generator::sized::sized_sheet;
 use independent::holds::{all_hold, shift_holds, turn_holds, Law};
 use independent::laws::Pair;
 use independent::list::closing_list;
 use independent::named::named_cases;
 use independent::random::Random;
+use independent::sheet_cases::sheet_cases;
 use independent::stream;
 use independent::tables::LIST_LIMIT;
 use std::io::{self, Read, Write};
@@ -27,6 +29,9 @@ const USAGE: &str = "usage:
                                         stream obey the first law
   independent turn-holds SEED COUNT < ANSWERS   and the second
   independent sized SEED BYTES          one accepted sheet of so many bytes
+  independent sheet-cases < TEXT        what is said of sheets written as digits
+  independent field-cases < SHEET       what is said of single fields, and of
+                                        walks over the Nickel sheet
 ";
 
 fn main() -> ExitCode {
@@ -49,6 +54,8 @@ fn run(words: &[&str]) -> Result<Vec<u8>, String> {
     match words {
         ["list"] => Ok(closing_list(&read_sheet()?)),
         ["names"] => Ok(names().into_bytes()),
+        ["sheet-cases"] => said_of_text(),
+        ["field-cases"] => Ok(field_cases(&read_sheet()?).into_bytes()),
         [command, seed, count] => {
             let seed = seed.parse().map_err(|_| USAGE.to_string())?;
             let count = count.parse().map_err(|_| USAGE.to_string())?;
@@ -100,6 +107,14 @@ fn read_and_answer(command: &str) -> Result<Vec<u8>, String> {
     let cut = |byte| format!("the stream is cut short in the sheet at byte {byte}");
     let sheets = stream::frames(&input).map_err(cut)?;
     Ok(answer(&sheets))
+}
+
+/// What is said of the sheets that standard input has as digits.
+fn said_of_text() -> Result<Vec<u8>, String> {
+    let mut text = String::new();
+    io::stdin().read_to_string(&mut text).map_err(|error| error.to_string())?;
+    let said = sheet_cases(&text).map_err(|line| format!("line {line} has no whole bytes"))?;
+    Ok(said.into_bytes())
 }
 
 /// Standard input up to one byte more than the list's limit.

@@ -58,6 +58,43 @@ fn a_stream_is_answered_and_judged() {
     assert!(!run(&["judge"], &[&stream[..50]]).status.success());
 }
 
+/// A label, the empty sheet, a header and its end, the same priced, and one
+/// byte too many priced; the two long sheets of zeros are always there.
+#[test]
+fn sheets_written_as_digits_are_judged_and_priced() {
+    let text = "# two\n\n01 0003 04 0000 050004 00000001\n\
+                =01 0003 04 07FF 02 0005 00 00000032 050004 00000002\n=010003040000 05000400000001 00\n";
+    let late = "refused 15 0";
+    let priced = format!("3M TWAP 50 0\nM3 refused 13 0\nM2 {late}\nM4 {late}\nM1 {late}\nCash {late}\n");
+    let zeros = "# B17 as many zero bytes as a sheet may have, and one more\nrefused 3 0\nrefused 1 0\n";
+    let expected = format!("# two\nrefused 2 0\naccepted 4 0 2\n{priced}refused 5 13\n{zeros}");
+    assert_eq!(printed(&["sheet-cases"], &[text.as_bytes()]), expected);
+    for wrong in ["010\n", "0g\n"] {
+        assert!(!run(&["sheet-cases"], &[wrong.as_bytes()]).status.success());
+    }
+}
+
+/// Some of its lines, by hand; the whole text is compared with the proved
+/// program's.
+#[test]
+fn single_fields_are_read_written_and_walked_over() {
+    let text = printed(&["field-cases"], &[&nickel_sheet()]);
+    let lines: Vec<&str> = text.lines().collect();
+    assert_eq!(lines.len(), 65);
+    for line in [
+        "refused 2 18446744073709551615 0",
+        "field 1048583 3",
+        "field 8: 7 7 1 0 3 1 2 3",
+        "refused 16 3: 7 7 7 7 7 7 7 7",
+        "field 7: 5 0 4 255 255 255 255 7",
+        "78: field 95 14",
+        "123: field 130 4",
+        "130: refused 2 130 0",
+    ] {
+        assert!(lines.contains(&line), "{line}");
+    }
+}
+
 #[test]
 fn the_commands_write_what_the_library_makes() {
     assert_eq!(run(&["cases", "3", "500"], &[]).stdout, stream_of_cases(&cases(3, 500)));
