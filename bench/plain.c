@@ -13,7 +13,7 @@ INLINE int in_range(int64_t instrument, int64_t price) {
     return instrument ? price >= -9999999 && price <= 9999999 : price >= 1 && price <= 99999999;
 }
 
-/* The number that a field earns, in document 01's order, or 0 and its tag and values. */
+/* The number that a field earns, in the order of docs/SHEET.md, section 5, or 0 and its tag and values. */
 INLINE unsigned field(Bytes p, size_t left, struct place place, int64_t *v) {
     unsigned number;
     if (left < 3) return 2;

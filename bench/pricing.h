@@ -1,4 +1,4 @@
-/* What plain.c and limit.c have in common: big-endian loads, document 01's tables, and pricing once the trades of a day are added up. */
+/* What plain.c and limit.c have in common: big-endian loads, the tables of docs/RULES.md, and pricing once the trades of a day are added up. */
 #ifndef PRICING_H
 #define PRICING_H
 

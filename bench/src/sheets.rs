@@ -6,7 +6,7 @@ use independent::random::Random;
 use independent::sheet::Record;
 use independent::tables::{window_start, METALS, WINDOW};
 
-/// The sheet of document 01: four contracts by VWAP, two by TWAP.
+/// The Nickel sheet of docs/SHEET.md: four contracts by VWAP, two by TWAP.
 const NICKEL: &[u8] = include_bytes!("../../examples/nickel.sheet");
 
 /// The instruments that a TWAP asks for, one for each contract.

@@ -2,7 +2,7 @@
  * Bliskoru for C and C++: a day sheet's closing list, its judgement and its six answers, and single fields read and written.
  *
  * Link with target/staticlib/libbliskoru.a, which `rt staticlib bliskoru` writes. It needs memcpy and memset and nothing else.
- * The numbers, ranges and layouts are document 01's; docs/SHEET.md has the sheet, docs/HOSTS.md how to embed this.
+ * docs/SHEET.md has the numbers, ranges and layouts, docs/RULES.md the prices, docs/HOSTS.md how to embed this.
  *
  * For every function:
  *  - It keeps nothing between calls, takes no memory of its own but the stack, and may be called from any number of threads at once.
@@ -24,25 +24,25 @@
 extern "C" {
 #endif
 
-/* What a function says: yes, or document 01's number of the refusal. */
+/* What a function says: yes, or the refusal's number (docs/SHEET.md, section 4). */
 enum bliskoru_number {
     BLISKORU_YES = 0,
-    BLISKORU_SHEET_TOO_LONG = 1,      /* the sheet is longer than 1,048,576 bytes */
-    BLISKORU_BYTES_MISSING = 2,       /* fewer bytes remain than the field head or body needs, or no end field was met */
-    BLISKORU_TAG = 3,                 /* tag not 1 to 5 */
-    BLISKORU_LENGTH = 4,              /* length not the tag's */
-    BLISKORU_OUT_OF_PLACE = 5,        /* field out of its place, or bytes after the end field */
-    BLISKORU_METAL_OR_MARKS = 6,      /* metal not 1 to 5, or a mark above bit 10 */
+    BLISKORU_SHEET_TOO_LONG = 1,      /* more than 1,048,576 bytes */
+    BLISKORU_BYTES_MISSING = 2,       /* bytes of a field are missing, or the end field is */
+    BLISKORU_TAG = 3,                 /* no tag 1 to 5 */
+    BLISKORU_LENGTH = 4,              /* another length than the tag has */
+    BLISKORU_OUT_OF_PLACE = 5,        /* a field out of its place, or bytes behind the end field */
+    BLISKORU_METAL_OR_MARKS = 6,      /* no metal 1 to 5, or a mark that no spread has */
     BLISKORU_INSTRUMENT = 7,          /* instrument above 11 */
-    BLISKORU_TIME = 8,                /* time above 86,399,999, or (in a whole sheet) below the time before it */
+    BLISKORU_TIME = 8,                /* time above 86,399,999, or (in a whole sheet) one that falls */
     BLISKORU_PRICE = 9,               /* price out of range: 1 to 99,999,999 outright, -9,999,999 to 9,999,999 for a spread */
     BLISKORU_LOTS = 10,               /* lots not 1 to 10,000 */
-    BLISKORU_SIDES = 11,              /* sides above 3, an absent side not zero, or bid above offer */
-    BLISKORU_END_COUNT = 12,          /* end count wrong */
+    BLISKORU_SIDES = 11,              /* no sides 0 to 3, an absent side that holds a price, or a bid higher than the offer */
+    BLISKORU_END_COUNT = 12,          /* the end field counts wrong */
     BLISKORU_NO_REFERENCE = 13,       /* contract: below 5 lots, and no reference at the window's first millisecond */
-    BLISKORU_CLOSE_OUT_OF_RANGE = 14, /* contract: the rounded close is outside 1 to 99,999,999 */
-    BLISKORU_NOT_REACHED = 15,        /* contract: an earlier one was refused */
-    BLISKORU_DOES_NOT_FIT = 16        /* writer: the place is past the buffer or the field doesn't fit behind it */
+    BLISKORU_CLOSE_OUT_OF_RANGE = 14, /* contract: no close of 1 to 99,999,999 cents after rounding */
+    BLISKORU_NOT_REACHED = 15,        /* contract: one before it was refused */
+    BLISKORU_DOES_NOT_FIT = 16        /* writer: no room for the field at that place */
 };
 
 /* How a contract was priced: the first number of its row. A refused contract has 13, 14 or 15 there. */
@@ -138,7 +138,7 @@ uint8_t bliskoru_read(const uint8_t *sheet, size_t sheet_len, size_t at, int64_t
  *   next                the place behind the field
  * Yes: 0. The field's bytes stand at `at`, the others of buffer stay as they were, and *next is the place behind the field.
  * No:  the number that the values earn, or 16 where they earn none and the field doesn't fit. buffer and *next stay as they were.
- * Places, falling times and end counts are judged over the whole sheet, not here.
+ * What only a whole sheet can get wrong is not judged here: the order of fields, times that fall, the end's count.
  */
 
 /* 6 bytes; 6 or 16. metal: 1 Nickel, 2 Aluminium, 3 Zinc, 4 Copper, 5 Lead. marks: bit i-1 where spread i is quoted reversed. */

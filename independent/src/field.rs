@@ -212,7 +212,7 @@ pub fn field_body(sheet: &[u8], at: usize) -> &[u8] {
     }
 }
 
-/// A reader that holds the lent sheet and its place.
+/// Goes through a sheet field by field, and knows its place.
 #[derive(Clone, Copy, Debug)]
 pub struct Walker<'a> {
     sheet: &'a [u8],

@@ -1,5 +1,7 @@
-//! A second reading of the closing-price rules (document 01), written from the
-//! document alone so that its answers can be compared with another library's.
+//! A second reading of the closing-price rules, written from the papers of
+//! docs/SOURCES.md and the readings of them in docs/DECISIONS.md, never from the
+//! proved code, so that the answers of both can be compared. Comments name the
+//! sections of docs/RULES.md (RULES 5) and docs/SHEET.md (SHEET 4).
 //!
 //! * [`tables`]    metals, windows, steps, instruments and contracts
 //! * [`field`]     one field: its values, reading it, writing it, walking

@@ -129,7 +129,7 @@ fn judge_field(sheet: &[u8], at: usize, met: &Met) -> Result<(Field, usize), u8>
     }
 }
 
-/// The day a sheet holds, or the refusal of document 01 with its byte.
+/// The day a sheet holds, or the refusal's number (SHEET 4) with its byte.
 pub fn judge_sheet(sheet: &[u8]) -> Result<Day, Refusal> {
     if sheet.len() > SHEET_LIMIT {
         return Err((1, 0));

@@ -1,4 +1,4 @@
-//! The constants of document 01: limits, ranges, the metals with their windows
+//! The constants of RULES 1 to 4 and SHEET 3: limits, ranges, the metals with their windows
 //! and steps, the instruments with their legs, and the contracts in pricing order.
 
 /// A sheet longer than this is refused with 1.

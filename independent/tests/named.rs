@@ -1,5 +1,5 @@
-//! Every named case gives its hand-written list; sections B, C and D of the
-//! readings are in their names.
+//! Every named case gives its hand-written list; each label in a name has its
+//! row in docs/CASES.md.
 
 use independent::list::{closing_list_by_spans, unlimited_list};
 use independent::named::{large_cases, named_cases, NamedCase};

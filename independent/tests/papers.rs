@@ -1,4 +1,4 @@
-//! Document 01's own examples: the Nickel sheet byte by byte, the proved cases
+//! The papers' own examples: the Nickel sheet byte by byte, the proved cases
 //! P1 to P12, and the exchange's Copper example.
 
 use independent::closing_list;
@@ -35,7 +35,7 @@ fn the_nickel_sheet_has_these_bytes_and_this_list() {
 }
 
 #[test]
-fn the_copper_example_gives_01s_m1_and_cash() {
+fn the_copper_example_gives_the_rules_m1_and_cash() {
     assert_eq!(list(&copper_sheet()), COPPER_LIST);
 }
 

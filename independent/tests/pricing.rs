@@ -77,7 +77,7 @@ fn trades(day: &Day) -> impl Iterator<Item = (u32, u8, u64)> + '_ {
     })
 }
 
-/// Document 01's words for 13, and the contract's lots.
+/// What 13 says (RULES 9), and the contract's lots.
 fn words_of_13(day: &Day, contract: usize) -> (bool, u64) {
     let row = &CONTRACTS[contract];
     let metal = metal_row(day.metal).unwrap();

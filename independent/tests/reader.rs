@@ -1,4 +1,4 @@
-//! Section A of the readings: the reader of one field and the walker.
+//! Labels A of docs/CASES.md: the reader of one field and the walker.
 
 use independent::draft::{close, end, header, quote, sheet_of, trade};
 use independent::field::{encode, field_body};

@@ -1,4 +1,4 @@
-//! Section E of the readings: the writer of one field.
+//! Labels E of docs/CASES.md: the writer of one field.
 
 use independent::draft::{close, end, header, quote, trade};
 use independent::field::encode;

@@ -179,7 +179,7 @@ fn show_torn(sheet: &[u8], length: usize, from: usize, turns: usize) {
     }
 }
 
-// Document 01's Nickel sheet of 130 bytes, which is the program's input: whole and torn.
+// The Nickel sheet of 130 bytes, which is the program's input: whole and torn.
 fn nickel_walks() {
     let mut room = io::buffer();
     let length = io::read_full(STDIN_FILENO, &mut room);

@@ -79,7 +79,7 @@ impl Field {
                 offer: e as i32,
             },
             5 => Field::End { count: a as u32 },
-            _ => unreachable!("{tag} is no tag of document 01"),
+            _ => unreachable!("{tag} is no tag of a field"),
         }
     }
 }

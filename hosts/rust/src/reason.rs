@@ -1,15 +1,15 @@
-//! Why something was refused: document 01's numbers.
+//! Why something was refused: the numbers of docs/SHEET.md, section 4.
 
 use std::error::Error;
 use std::fmt;
 
-/// Document 01's numbers.
+/// The numbers of docs/SHEET.md, section 4.
 #[derive(Clone, Copy, Debug, PartialEq, Eq, PartialOrd, Ord, Hash)]
 #[repr(u8)]
 pub enum Reason {
-    /// The sheet is longer than 1,048,576 bytes.
+    /// The sheet has more than 1,048,576 bytes.
     SheetTooLong = 1,
-    /// Fewer bytes remain than the field head or body needs, or no end field was met.
+    /// Bytes of a field are missing, or the end field is.
     BytesMissing = 2,
     /// The tag is not 1 to 5.
     Tag = 3,
@@ -17,7 +17,7 @@ pub enum Reason {
     Length = 4,
     /// The field is out of its place, or bytes stand after the end field.
     OutOfPlace = 5,
-    /// The metal is not 1 to 5, or a mark is above bit 10.
+    /// There is no such metal, or a mark that no spread has.
     MetalOrMarks = 6,
     /// The instrument is above 11.
     Instrument = 7,
@@ -33,11 +33,11 @@ pub enum Reason {
     EndCount = 12,
     /// A contract has less than 5 lots, and no reference at the window's first millisecond.
     NoReference = 13,
-    /// A contract's rounded close is outside 1 to 99,999,999.
+    /// A contract has no close of 1 to 99,999,999 cents after rounding.
     CloseOutOfRange = 14,
     /// An earlier contract was refused.
     NotReached = 15,
-    /// The place is past the buffer, or the field does not fit behind it.
+    /// There is no room for the field at that place.
     DoesNotFit = 16,
 }
 
@@ -62,7 +62,7 @@ const REASONS: [Reason; 16] = [
 ];
 
 impl Reason {
-    /// Document 01's number.
+    /// Its number.
     pub fn number(self) -> u8 {
         self as u8
     }
@@ -75,17 +75,17 @@ impl Reason {
     /// The reason of a number that the archive handed back as a refusal. It hands back no other, so this never panics.
     pub(crate) fn handed_back(number: u64) -> Reason {
         let reason = u8::try_from(number).ok().and_then(Reason::from_number);
-        reason.unwrap_or_else(|| unreachable!("{number} is no refusal of document 01"))
+        reason.unwrap_or_else(|| unreachable!("{number} is no number of a refusal"))
     }
 
     fn words(self) -> &'static str {
         match self {
-            Reason::SheetTooLong => "the sheet is longer than 1,048,576 bytes",
+            Reason::SheetTooLong => "the sheet has more than 1,048,576 bytes",
             Reason::BytesMissing => "bytes of a field or the end field are missing",
             Reason::Tag => "the tag is not 1 to 5",
             Reason::Length => "the length is not the tag's",
             Reason::OutOfPlace => "the field is out of its place, or bytes stand after the end field",
-            Reason::MetalOrMarks => "the metal is not 1 to 5, or a mark is above bit 10",
+            Reason::MetalOrMarks => "there is no such metal, or a mark that no spread has",
             Reason::Instrument => "the instrument is above 11",
             Reason::Time => "the time is above its range or below the time before it",
             Reason::Price => "a price is out of its range",
@@ -95,9 +95,9 @@ impl Reason {
             }
             Reason::EndCount => "the end field's count is wrong",
             Reason::NoReference => "less than 5 lots, and no reference at the window's first millisecond",
-            Reason::CloseOutOfRange => "the rounded close is outside 1 to 99,999,999",
+            Reason::CloseOutOfRange => "no close of 1 to 99,999,999 cents after rounding",
             Reason::NotReached => "an earlier contract was refused",
-            Reason::DoesNotFit => "the place is past the buffer, or the field does not fit behind it",
+            Reason::DoesNotFit => "there is no room for the field at that place",
         }
     }
 }

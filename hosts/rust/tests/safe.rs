@@ -1,4 +1,4 @@
-//! The safe functions: what each hands back for the edges' tables, for document 01's Nickel sheet, and for no bytes at all.
+//! The safe functions: what each hands back for the edges' tables, for the Nickel sheet of docs/SHEET.md, and for no bytes at all.
 
 mod common;
 
@@ -9,7 +9,7 @@ use std::error::Error;
 use std::thread;
 
 fn reason(number: u8) -> Reason {
-    Reason::from_number(number).expect("a number of document 01")
+    Reason::from_number(number).expect("a number of a refusal")
 }
 
 /// The field of a row of `fields`.
@@ -163,7 +163,7 @@ fn threads_may_ask_at_once_of_one_sheet() {
 }
 
 #[test]
-fn reasons_are_document_01s_numbers_and_have_words() {
+fn reasons_are_the_sheets_numbers_and_have_words() {
     for number in 1..=16 {
         assert_eq!(reason(number).number(), number);
         assert!(reason(number).to_string().ends_with(&format!(" ({number})")));

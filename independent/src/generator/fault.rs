@@ -239,7 +239,7 @@ fn wrong_lots(random: &mut Random, fields: Vec<Field>) -> Faulty {
     put_in(fields, index, trade(time, instrument, 1, lots), 10)
 }
 
-/// 11: sides above 3, an absent side not zero, or bid above offer by one.
+/// 11: no such sides, a price in an absent side, or a bid one above the offer.
 fn wrong_sides(random: &mut Random, fields: Vec<Field>) -> Faulty {
     let (index, time) = record_place(random, &fields);
     let bid = random.price(2, 5_000);

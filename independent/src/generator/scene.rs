@@ -1,5 +1,5 @@
 //! A random accepted day: each contract gets an activity of its own, aimed at
-//! one of the lines document 01 draws.
+//! one of the lines that RULES and SHEET draw.
 
 use crate::draft::{close, header, record_field};
 use crate::field::{Field, Quote, Trade, BID, OFFER};

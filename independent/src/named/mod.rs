@@ -1,6 +1,6 @@
-//! Hand-made sheets with their closing lists written by hand from document 01
-//! and the readings taken of it. A name begins with the reading's id where
-//! there is one.
+//! Hand-made sheets with their closing lists written by hand from the rules
+//! (docs/RULES.md, docs/SHEET.md). A name begins with its label of
+//! docs/CASES.md where there is one.
 
 mod edges;
 mod fields;

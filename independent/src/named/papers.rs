@@ -1,10 +1,10 @@
-//! The two worked sheets: document 01's Nickel sheet and the exchange's Copper
+//! The two worked sheets: the Nickel sheet of SHEET 6 and the exchange's Copper
 //! example; and every way to cut the Nickel sheet short.
 
 use super::{case, refused, NamedCase};
 use crate::draft::{close, end, header, quote, sheet_of, trade};
 
-/// The list printed in document 01.
+/// The list of the Nickel sheet, as RULES 10 shows it.
 pub const NICKEL_LIST: &str = "\
 Nickel
 3M VWAP 1800100 6
@@ -15,7 +15,7 @@ M1 TWAP 1799185 0
 Cash TWAP 1798935 0
 ";
 
-/// The exchange's example, with document 01's M1 and Cash.
+/// The exchange's example, with the M1 and Cash that its rules give.
 pub const COPPER_LIST: &str = "\
 Copper
 3M VWAP 920100 5
@@ -26,7 +26,7 @@ M1 TWAP 921186 0
 Cash TWAP 921236 0
 ";
 
-/// Document 01's sheet of 130 bytes.
+/// The Nickel sheet of 130 bytes (SHEET 6).
 pub fn nickel_sheet() -> Vec<u8> {
     sheet_of(&[
         header(1, 0),

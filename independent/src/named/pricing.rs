@@ -297,7 +297,7 @@ fn outright_twap() -> Vec<NamedCase> {
     ]
 }
 
-/// The slips document 01 names.
+/// Slips that look right: one case that tells each apart.
 fn slips() -> Vec<NamedCase> {
     let at = |spread: u8, price: i32, lots: u16| trade(SPREAD, spread, price, lots);
     let averages = [at(2, 0, 2), at(2, 1, 2), at(3, 0, 1)];
