@@ -92,23 +92,24 @@ fn occurring() -> [(&'static str, HashSet<String>); 6] {
 #[test]
 fn every_label_has_a_row_that_says_where_it_runs() {
     let rows = rows();
-    for (place, labels) in occurring() {
-        assert!(!labels.is_empty(), "{place}");
-        for label in labels {
-            let row = rows.get(&label).unwrap_or_else(|| panic!("{label} of {place} has no row"));
-            assert!(row.iter().any(|named| named == place), "{label} runs in {place} too");
-        }
+    let occurring = occurring();
+    assert!(occurring.iter().all(|(_, labels)| !labels.is_empty()));
+    let pairs = occurring.iter().flat_map(|(place, labels)| labels.iter().map(move |label| (place, label)));
+    for (place, label) in pairs {
+        let row = rows.get(label).unwrap_or_else(|| panic!("{label} of {place} has no row"));
+        assert!(row.iter().any(|named| named == place), "{label} runs in {place} too");
     }
 }
 
 #[test]
 fn every_row_runs_where_it_says() {
     let occurring = occurring();
-    for (label, places) in rows().into_iter().filter(|(label, _)| label != "Label" && label != "---") {
-        for place in places.iter().filter(|place| *place != "proved") {
-            let found = occurring.iter().find(|(name, _)| name == place);
-            assert!(found.is_some_and(|(_, labels)| labels.contains(&label)), "{label} in {place}");
-        }
+    let runs = |label: &str, place: &str| match place {
+        "proved" => label.starts_with('P'),
+        _ => occurring.iter().any(|(name, labels)| *name == place && labels.contains(label)),
+    };
+    for (label, places) in rows().into_iter().filter(|(label, _)| is_label(label)) {
+        assert!(places.iter().all(|place| runs(&label, place)), "{label} in {places:?}");
         assert_eq!(places.contains(&"proved".to_string()), label.starts_with('P'), "{label}");
     }
 }

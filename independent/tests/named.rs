@@ -69,8 +69,8 @@ fn b17_the_judge_of_large_sheets() {
     }
 }
 
-/// The sums that the longest sheets' comments state, and that each is on a
-/// half of its contract's step or one lot row of 10,000 below it.
+/// The sums that the longest sheets' comments state: each on a half of its
+/// contract's step, or one cent of one trade below it.
 #[test]
 fn the_longest_sheets_have_the_sums_that_they_name() {
     let halves: [(u128, u128, u128); 3] = [

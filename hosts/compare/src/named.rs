@@ -7,15 +7,15 @@ use independent::named::{large_cases, named_cases, NamedCase};
 /// Every named case, those too long for a list too; how many they are, or the first that differs.
 pub fn hold() -> Result<usize, String> {
     let (short, large) = (named_cases(), large_cases());
-    for case in &short {
-        told_as_written(case, bliskoru::list(&case.sheet))?;
-    }
-    for case in &large {
-        told_as_written(case, answers_as_lines(case))?;
+    let lists = short.iter().map(|case| (case, bliskoru::list(&case.sheet)));
+    let answers = large.iter().map(|case| (case, answers_as_lines(case)));
+    for (case, given) in lists.chain(answers) {
+        told_as_written(case, given)?;
     }
     Ok(short.len() + large.len())
 }
 
+/// The library's list as it is by hand, and both alike in everything else.
 fn told_as_written(case: &NamedCase, given: String) -> Result<(), String> {
     if given != case.list {
         return Err(format!("{}: by hand\n{}the library says\n{given}", case.name, case.list));
