@@ -108,7 +108,7 @@ fn every_row_runs_where_it_says() {
         "proved" => label.starts_with('P'),
         _ => occurring.iter().any(|(name, labels)| *name == place && labels.contains(label)),
     };
-    for (label, places) in rows().into_iter().filter(|(label, _)| is_label(label)) {
+    for (label, places) in rows().into_iter().filter(|(label, _)| !labels_in(label).is_empty()) {
         assert!(places.iter().all(|place| runs(&label, place)), "{label} in {places:?}");
         assert_eq!(places.contains(&"proved".to_string()), label.starts_with('P'), "{label}");
     }
