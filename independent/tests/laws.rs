@@ -1,4 +1,4 @@
-//! Demand 3's two laws on random pairs, and the pairs themselves.
+//! The two laws of docs/LAWS.md on random pairs, and the pairs themselves.
 
 use independent::draft::{close, ended_sheet, header, quote, trade};
 use independent::laws::{has_14, moved_alike, possible_steps, shift_sheet, turn_sheet, Pair};

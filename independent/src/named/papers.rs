@@ -4,7 +4,7 @@
 use super::{case, refused, NamedCase};
 use crate::draft::{close, end, header, quote, sheet_of, trade};
 
-/// The list of the Nickel sheet, as RULES 10 shows it.
+/// The list of the Nickel sheet, six prices under the metal's name (RULES 10).
 pub const NICKEL_LIST: &str = "\
 Nickel
 3M VWAP 1800100 6
