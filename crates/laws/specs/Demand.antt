@@ -17,8 +17,7 @@ use Rattle.market.specs.Market.{stepOf, 3M}
 use Rattle.sheet.specs.declared.Day.{Day}
 use Rattle.sheet.specs.Fields.{fieldsOf, encode, Each}
 use Rattle.sheet.specs.Judgement.{accepts, judgeSheet}
-use Rattle.indicator.specs.laws.Changed.{changed}
-use Rattle.indicator.specs.laws.Moved.{shiftPrice, shiftField, turnField}
+use Rattle.field.specs.Repriced.{changed, shiftPrice, shiftField, turnField}
 use Rattle.price_rules.specs.declared.Method.{Method}
 use Rattle.price_rules.specs.Closing.{Told, close, refused, six, answersOf}
 

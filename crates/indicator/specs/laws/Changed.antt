@@ -1,6 +1,4 @@
 -- A change of the fields of one instrument, and the indicator's state that goes along with it.
---     changed        the change at the fields of instrument i, and nowhere else
---     repriced       a change that keeps a field's time and instrument, and moves its prices
 --     after-changed  a change of the state that goes along field by field goes along over the whole list
 --     others-stay    the indicators of other instruments stay
 -- Assumes nothing.
@@ -13,36 +11,11 @@ use lib.Dec.{leb, eqb}
 use Rattle.field.specs.declared.Price.{Price}
 use Rattle.field.specs.declared.Field.{Field}
 use Rattle.field.specs.declared.Field.the-variants.{Header, PreviousClose, Trade, Quote, End}
+use Rattle.field.specs.Repriced.{concerns, changed, Sides, repriced}
 use Rattle.indicator.specs.declared.Side.{Side}
 use Rattle.indicator.specs.declared.Side.the-variants.{Absent, At}
 use Rattle.indicator.specs.declared.Indicator.{Indicator}
 use Rattle.indicator.specs.Indicator.{present, empty, elseAt, afterTrade, afterClose, afterQuote, bookFrom, taken, stamp, afterFrom, after}
-
--- the field is of instrument i
-abbrev pub concerns : ℕ → Field → Bool
-concerns i (Header metal marks) = false
-concerns i (PreviousClose instrument price) = eqb instrument i
-concerns i (Trade time instrument price lots) = eqb instrument i
-concerns i (Quote time instrument sides bid offer) = eqb instrument i
-concerns i (End count) = false
-
--- the change g at the fields of instrument i, and nowhere else
-abbrev pub changed : ℕ → (Field → Field) → Field → Field
-changed i g f = cond (concerns i f) (g f) f
-
--- what a quote says of its sides
-pub record Sides : Type 0 where
-  pub sides : ℕ
-  pub bid : Price
-  pub offer : Price
-
--- the prices of closes and trades by m, and a quote's sides by q
-abbrev pub repriced : (Price → Price) → (ℕ → Price → Price → Sides) → Field → Field
-repriced m q (Header metal marks) = Header metal marks
-repriced m q (PreviousClose instrument price) = PreviousClose instrument (m price)
-repriced m q (Trade time instrument price lots) = Trade time instrument (m price) lots
-repriced m q (Quote time instrument sides bid offer) = Quote time instrument (q sides bid offer .sides) (q sides bid offer .bid) (q sides bid offer .offer)
-repriced m q (End count) = End count
 
 -- a side moved by m
 abbrev pub onSide : (Price → Price) → Side → Side

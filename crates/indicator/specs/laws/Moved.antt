@@ -1,8 +1,8 @@
 -- Two laws of the sum. Where every price of an instrument is moved by δ, its indicator is moved by δ at each millisecond of the window,
 -- and its sum by 300,000·δ. Where every price is negated and bid and offer change places, as of a spread quoted the other way round, the
 -- indicator and the sum are negated; that needs a bid that is not above the offer, as in every accepted sheet.
---     shiftField, shifted-at, shifted     the fields moved by δ, the indicator at a millisecond, the sum
---     turnField, turned-at, turned        the same of fields turned round
+--     shifted-at, shifted     of fields moved by δ: the indicator at a millisecond, the sum
+--     turned-at, turned       the same of fields turned round
 -- Assumes nothing.
 use Prim.Native.Nat.{ℕ, _+_, _*_, _/_, _%_, _≤_}
 use mathlib.Core.Path.{_≡_, refl, ap, _∙_}
@@ -24,31 +24,8 @@ use Rattle.indicator.specs.declared.Indicator.{Indicator}
 use Rattle.indicator.specs.Indicator.{sideOf, present, centsOf, empty, afterTrade, afterClose, afterQuote, below, belowOffer, insideBook, valueBy, valueOf, bookFrom, taken, afterFrom, after, centsAt, twapSum, hasReference}
 use Rattle.indicator.specs.laws.Sums.{sum-cong, sum-shift, sum-neg}
 use Rattle.indicator.specs.laws.Indicator.{reference-stays}
-use Rattle.indicator.specs.laws.Changed.{changed, Sides, repriced, onSide, on-present, on-else, cond-map, repriced-keeps, repriced-along, after-changed}
-
--- a price moved by δ
-abbrev pub shiftPrice : ℤ → Price → Price
-shiftPrice δ p = record { cents = p .cents +ℤ δ }
-
--- a quote moved by δ: the sides that are present
-abbrev pub shiftSides : ℤ → ℕ → Price → Price → Sides
-shiftSides δ sides bid offer = record { sides = sides; bid = cond (hasBid sides) (shiftPrice δ bid) bid; offer = cond (hasOffer sides) (shiftPrice δ offer) offer }
-
--- a field whose prices are moved by δ
-abbrev pub shiftField : ℤ → Field → Field
-shiftField δ = repriced (shiftPrice δ) (shiftSides δ)
-
--- a price negated
-abbrev pub turnPrice : Price → Price
-turnPrice p = record { cents = negℤ (p .cents) }
-
--- a quote turned round: prices negated, bid and offer exchanged, and their bits too
-abbrev pub turnSides : ℕ → Price → Price → Sides
-turnSides sides bid offer = record { sides = 2 * (sides % 2) + sides / 2 % 2; bid = turnPrice offer; offer = turnPrice bid }
-
--- a field turned round
-abbrev pub turnField : Field → Field
-turnField = repriced turnPrice turnSides
+use Rattle.field.specs.Repriced.{changed, shiftPrice, shiftSides, shiftField, turnPrice, turnSides, turnField}
+use Rattle.indicator.specs.laws.Changed.{onSide, on-present, on-else, cond-map, repriced-keeps, repriced-along, after-changed}
 
 -- no quote has a bid above its offer
 abbrev pub Fair : List Field → Type 0

@@ -22,7 +22,8 @@ use Rattle.trades.specs.laws.Trades.{trade-other}
 use Rattle.indicator.specs.declared.Indicator.{Indicator}
 use Rattle.indicator.specs.Indicator.{present, centsOf, valueOf, taken, afterFrom, after, centsAt}
 use Rattle.indicator.specs.laws.Sums.{sum-cong}
-use Rattle.indicator.specs.laws.Changed.{concerns, changed, Sides, repriced, repriced-keeps, not-both, others-stay}
+use Rattle.field.specs.Repriced.{concerns, changed, Sides, repriced}
+use Rattle.indicator.specs.laws.Changed.{repriced-keeps, not-both, others-stay}
 use Rattle.twap.specs.Span.{missing, sum, spanOf}
 
 -- ---- trades

@@ -16,20 +16,19 @@ use Rattle.wire.specs.Big.{Bytes}
 use Rattle.field.specs.declared.Price.{Price}
 use Rattle.field.specs.declared.Field.{Field}
 use Rattle.field.specs.declared.Field.the-variants.{Header, PreviousClose, Trade, Quote, End}
-use Rattle.field.specs.Judging.{fine, headerRight, priceRight, judge}
+use Rattle.field.specs.Judging.{fine, headerRight, priceRight, judge, also}
 use Rattle.field.specs.Layout.{tagOf, sizeOf}
 use Rattle.field.specs.laws.Field.{clash, unless-passed, body-length}
 use Rattle.field.specs.laws.Sound.{Sound, SoundQuote, sound, judge-sound}
 use Rattle.admit.specs.declared.Progress.{Progress}
 use Rattle.admit.specs.Admitting.{start, previousPlaced, placed, countNumber, admitNumber, Step, goes, ends, stops, admitted, admit, afterHeader}
 use Rattle.admit.specs.laws.Admitting.{Passed, went, ended, kept, later-not-header, header-kept, end-is, admit-fine}
-use Rattle.field.specs.Judging.{also}
 use Rattle.sheet.specs.declared.Day.{Day}
 use Rattle.sheet.specs.Fields.{fieldsOf, encode, Each}
 use Rattle.sheet.specs.Judgement.{accepts, judgeSheet}
 use Rattle.sheet.specs.laws.Accepted.{Chain, last, more, accepted-chain, accepted-header, accepted-small}
 use Rattle.sheet.specs.laws.Encoding.{accepted-encodes, encoded-accepted}
-use Rattle.indicator.specs.laws.Changed.{concerns, changed, Sides, repriced}
+use Rattle.field.specs.Repriced.{concerns, changed, Sides, repriced}
 
 -- what holds of a changed field and of the field itself holds of the change at one instrument
 pub changed-all : (P : Field → Type 0) (i : ℕ) (g : Field → Field) (f : Field) → P (g f) → P f → P (changed i g f)

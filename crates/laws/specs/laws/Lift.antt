@@ -26,7 +26,8 @@ use Rattle.sheet.specs.laws.Accepted.{accepted-header, accepted-sound}
 use Rattle.trades.specs.Trades.{Deal, tradesIn, lotsIn, valueIn}
 use Rattle.trades.specs.laws.Trades.{numbered}
 use Rattle.indicator.specs.Indicator.{twapSum, hasReference}
-use Rattle.indicator.specs.laws.Moved.{shiftPrice, shiftSides, shifted-reference, shifted}
+use Rattle.field.specs.Repriced.{shiftPrice, shiftSides}
+use Rattle.indicator.specs.laws.Moved.{shifted-reference, shifted}
 use Rattle.twap.specs.Span.{missing, sum, spanOf}
 use Rattle.price_rules.specs.Closing.{Figures, figuresOf, refused, answerOf, closingsOf, six, answersBy, answersOf}
 use Rattle.laws.specs.Demand.{steps, liftedField, lifted, Liftable, Moved, InRange, answerAt, Moves, Lifts, ShiftLaw}

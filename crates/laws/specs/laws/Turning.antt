@@ -29,8 +29,9 @@ use Rattle.sheet.specs.laws.Accepted.{Without, accepted-header, accepted-sound}
 use Rattle.sheet.specs.laws.Encoding.{accepted-encodes}
 use Rattle.trades.specs.Trades.{Deal, tradesIn, lotsIn, valueIn}
 use Rattle.indicator.specs.Indicator.{twapSum, hasReference}
-use Rattle.indicator.specs.laws.Changed.{concerns, changed, repriced-keeps}
-use Rattle.indicator.specs.laws.Moved.{turnPrice, turnSides, turnField, Fair, turned-reference}
+use Rattle.field.specs.Repriced.{concerns, changed, turnPrice, turnSides, turnField}
+use Rattle.indicator.specs.laws.Changed.{repriced-keeps}
+use Rattle.indicator.specs.laws.Moved.{Fair, turned-reference}
 use Rattle.indicator.specs.laws.Moved as moved
 use Rattle.twap.specs.Span.{missing, sum, spanOf}
 use Rattle.price_rules.specs.Closing.{figuresOf, closingsOf, six}
