@@ -24,7 +24,7 @@ placed p (Trade time instrument price lots) = leb 1 (p .stage)
 placed p (Quote time instrument sides bid offer) = leb 1 (p .stage)
 placed p (End count) = leb 1 (p .stage)
 
--- SHEET 3, count: the number of fields before the end. Else 12
+-- SHEET 2: the end's count is that of the fields before it. Else 12
 unfoldable pub countNumber : Progress → Field → ℕ
 countNumber p (Header metal marks) = fine
 countNumber p (PreviousClose instrument price) = fine

@@ -1,6 +1,6 @@
 -- Values that the wire can carry: each fits the bytes that a field has for it.
 --     Held      each of a field's values fits its bytes
---     Counted   an end's count fits; SHEET 3 gives it no range, so no judgement says it
+--     Counted   an end's count fits; SHEET 3 gives it no range, so no judgement of one field says it
 use Prim.Native.Nat.{_<_}
 use mir.Syntax.{w32}
 use mir.Val.{SFits}
