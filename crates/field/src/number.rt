@@ -2,29 +2,29 @@
 
 // Nothing is refused.
 pub const FINE: u8 = 0;
-// The sheet is longer than 1,048,576 bytes.
+// A sheet of more than 1,048,576 bytes.
 pub const LONG: u8 = 1;
-// Fewer bytes remain than the field head or body needs, or no end field was met.
+// Bytes of the field are missing, or the end field is.
 pub const BYTES: u8 = 2;
-// Tag not 1 to 5.
+// No tag from 1 to 5.
 pub const TAG: u8 = 3;
-// Length not the tag's.
+// Another length than the tag has.
 pub const LENGTH: u8 = 4;
-// Field out of its place, or bytes after the end field.
+// A field out of its place, or bytes behind the end.
 pub const PLACE: u8 = 5;
-// Metal not 1 to 5, or a mark above bit 10.
+// No metal from 1 to 5, or a mark that no spread has.
 pub const METAL: u8 = 6;
-// Instrument above 11.
+// No instrument from 0 to 11.
 pub const INSTRUMENT: u8 = 7;
-// Time above range, or below the time before it.
+// A time behind the day's last, or one that falls.
 pub const TIME: u8 = 8;
-// Price out of range.
+// A price out of its range.
 pub const PRICE: u8 = 9;
-// Lots out of range.
+// Lots out of their range.
 pub const LOTS: u8 = 10;
-// Sides above 3, an absent side not zero, or bid above offer where both are present.
+// No sides from 0 to 3, an absent side that holds a price, or a bid above its offer.
 pub const SIDES: u8 = 11;
-// End count wrong.
+// The end counts wrong.
 pub const COUNT: u8 = 12;
-// The place is past the buffer, or the field doesn't fit behind it.
+// No room in the buffer for the field at its place.
 pub const ROOM: u8 = 16;

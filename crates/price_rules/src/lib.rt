@@ -28,7 +28,7 @@ pub enum Answer {
     },
     // Below 5 lots, and no reference at the window's first millisecond.
     NoReference(u64),
-    // The rounded close is outside 1 to 99,999,999.
+    // Rounded, it is no close from 1 to 99,999,999.
     OutOfRange(u64),
     // An earlier contract was refused.
     NotReached,
