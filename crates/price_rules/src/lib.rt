@@ -26,7 +26,7 @@ pub enum Answer {
         close: u32,
         lots: u64,
     },
-    // Below 5 lots, and no reference at the window's first millisecond.
+    // Below the minimum of lots, and no reference at the window's first millisecond.
     NoReference(u64),
     // Rounded, it is no close from 1 to 99,999,999.
     OutOfRange(u64),

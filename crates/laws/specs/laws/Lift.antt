@@ -14,17 +14,17 @@ use lib.Signed.{leZ, leZ-yes}
 use Rattle.cents.specs.laws.Whole.{up, down, is, is-+, is-*, is-pos, show-≡, show-≤, read-≤}
 use Rattle.field.specs.declared.Price.{Price}
 use Rattle.field.specs.declared.Field.{Field}
-use Rattle.field.specs.Judging.{both, pick, ifPresent, ifAbsent, centsWithin, headerRight, priceRight, hasBid, hasOffer, sidePricesRight}
-use Rattle.field.specs.laws.Field.{both-true, both-holds, within-true}
-use Rattle.field.specs.laws.Sound.{Sound, SoundQuote}
+use Rattle.field.specs.Judging.{both, pick, ifPresent, ifAbsent, centsWithin, priceRight, hasBid, hasOffer, sidePricesRight}
+use Rattle.field.specs.laws.Field.{both-true, both-holds}
+use Rattle.field.specs.laws.Sound.{SoundQuote}
 use Rattle.market.specs.Market.{startOf, stepOf, 3M}
-use Rattle.market.specs.laws.Rules.{step-some}
 use Rattle.sheet.specs.declared.Day.{Day}
 use Rattle.sheet.specs.Fields.{fieldsOf, encode, Each}
 use Rattle.sheet.specs.Judgement.{accepts, judgeSheet}
-use Rattle.sheet.specs.laws.Accepted.{accepted-header, accepted-sound}
+use Rattle.sheet.specs.laws.Accepted.{accepted-header, accepted-right}
 use Rattle.trades.specs.Trades.{Deal, tradesIn, lotsIn, valueIn}
 use Rattle.trades.specs.laws.Trades.{numbered}
+use Rattle.trades.specs.laws.Rowed.{accepted-step}
 use Rattle.indicator.specs.Indicator.{twapSum, hasReference}
 use Rattle.field.specs.Repriced.{shiftPrice, shiftSides}
 use Rattle.indicator.specs.laws.Moved.{shifted-reference, shifted}
@@ -125,18 +125,18 @@ unfolding closingsOf
 answer-at d c h = numbered (answerOf d) 0 6 c (refused 15 0) h ∙ ap (answerOf d) (omega arith)
 
 -- by figures: each contract up to which neither has a 14
-figures-move : (metal marks : ℕ) (fs : List Field) (k : ℤ) → 1 ≤ metal → metal ≤ 5 →
+figures-move : (metal marks : ℕ) (fs : List Field) (k : ℤ) → 0 < stepOf metal 3M →
     let d = figuresOf metal marks fs in
     let δ = pos (stepOf metal 3M) *ℤ k in
     let d′ = figuresOf metal marks (map (liftedField δ) fs) in
     Moves δ (closingsOf d) (closingsOf d′)
 unfolding figuresOf
-figures-move metal marks fs k low high c h f =
+figures-move metal marks fs k above c h f =
     let d = figuresOf metal marks fs in
     let δ = pos (stepOf metal 3M) *ℤ k in
     let d′ = figuresOf metal marks (map (liftedField δ) fs) in
     rw (answer-at d c h, answer-at d′ c h)
-    (shift k d d′ (step-some metal 3M low high) (figures-lifted δ metal marks fs) c h
+    (shift k d d′ above (figures-lifted δ metal marks fs) c h
     (λ j l. (subst InRange (answer-at d j (omega arith)) (f j l .0), subst InRange (answer-at d′ j (omega arith)) (f j l .1))))
 
 -- for every accepted sheet, and every whole number of steps that leaves its 3M prices in their range
@@ -146,8 +146,7 @@ shifts s day k b a l =
     let δ = steps day k in
     let first = accepted-header s day a in
     let same : map (liftedField δ) (fieldsOf s) ≡ changedFields s day b a 0 (shiftPrice δ) (shiftSides δ) (day .marks) = ap (map (liftedField δ)) (first .is) in
-    let right : headerRight (day .metal) (day .marks) ≡ true = subst (Each (Sound 0)) (first .is) (accepted-sound s day a) .0 in
-    let kept = changed-accepted s day b a 0 (shiftPrice δ) (shiftSides δ) (day .marks) right (lift-right δ (first .rest) (subst (Each (Liftable δ)) (first .is) l .1)) in
+    let kept = changed-accepted s day b a 0 (shiftPrice δ) (shiftSides δ) (day .marks) (accepted-right s day a) (lift-right δ (first .rest) (subst (Each (Liftable δ)) (first .is) l .1)) in
     let accepted : judgeSheet (encode (map (liftedField δ) (fieldsOf s))) ≡ accepts day = ap (λ (fs : List Field). judgeSheet (encode fs)) same ∙ kept .0 in
     let fields : fieldsOf (encode (map (liftedField δ) (fieldsOf s))) ≡ map (liftedField δ) (fieldsOf s) = ap (λ (fs : List Field). fieldsOf (encode fs)) same ∙ kept .1 ∙ sym same in
     let d = figuresOf (day .metal) (day .marks) (fieldsOf s) in
@@ -158,7 +157,7 @@ shifts s day k b a l =
       after = closingsOf d′;
       was = answers-are s day a;
       is-now = answers-are _ day accepted ∙ ap (λ (fs : List Field). six day (closingsOf (figuresOf (day .metal) (day .marks) fs))) fields;
-      moves = let metal = within-true 1 5 (day .metal) (both-true _ _ right .0) in figures-move (day .metal) (day .marks) (fieldsOf s) k (metal .0) (metal .1);
+      moves = figures-move (day .metal) (day .marks) (fieldsOf s) k (accepted-step s day 3M a);
     }
 
 -- so where neither sheet has a 14 at all, every contract is lifted, or refused as before

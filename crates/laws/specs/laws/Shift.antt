@@ -157,7 +157,7 @@ module _ (δ : ℤ) {d d′ : Figures} (up-by : Lifted δ d d′) (c : ℕ) (k k
   mean-moved r rule =
       rw (lots-moved (r .first) (r .past - r .first))
       (cond-moved (leb minimumLots (lotsOf d r))
-      (λ h. mean {w = lotsOf d r} (omega (arith, leb-true 5 (lotsOf d r) h)) (sum-moved (r .first) (r .past - r .first) (λ j h. rule .legs (r .first + j) (omega arith) (omega arith))))
+      (λ h. mean {w = lotsOf d r} (omega (arith, leb-true minimumLots (lotsOf d r) h)) (sum-moved (r .first) (r .past - r .first) (λ j h. rule .legs (r .first + j) (omega arith) (omega arith))))
       (span-moved (r .twap) (rule .legs (r .twap) (rule .order) (rule .among)) (span-fed (r .twap) (rule .legs (r .twap) (rule .order) (rule .among)))))
 
 -- the step divides δ

@@ -1,6 +1,7 @@
 -- Every metal and every instrument that is admitted has its row in the tables: the ranges that a sheet is held to and the tables that price it
 -- are of one size.
 --     rowed, accepted-rowed     the metal of a right header, and so of an accepted sheet, has a row: its step is above 0, its windows lie in the day
+--     accepted-step             every contract of an accepted sheet has a step above 0
 --     lined, accepted-lined     a right instrument has a row, and so has that of every field of an accepted sheet
 -- Assumes nothing.
 use Prim.Native.Nat.{ℕ, zero, suc, _+_, _≤_, _<_}
@@ -15,8 +16,9 @@ use Rattle.field.specs.declared.Field.the-variants.{Header, PreviousClose, Trad
 use Rattle.field.specs.Judging.{headerRight}
 use Rattle.field.specs.laws.Sound.{Sound, metal-range}
 use Rattle.market.specs.declared.Metal.{Metal}
-use Rattle.market.specs.Market.{metals, metalOf, instruments, windowLength}
+use Rattle.market.specs.Market.{metals, metalOf, instruments, stepOf, windowLength}
 use Rattle.market.specs.laws.Rows.{window-length}
+use Rattle.market.specs.laws.Rules.{step-some}
 use Rattle.market.specs.laws.Table.{both, both-left, both-right, below}
 use Rattle.sheet.specs.declared.Day.{Day}
 use Rattle.sheet.specs.Fields.{fieldsOf, Each}
@@ -60,6 +62,10 @@ rowed m marks e = by-range m (metal-range m marks e)
 
 pub accepted-rowed : (s : List ℕ) (day : Day) → judgeSheet s ≡ accepts day → Rowed (day .metal)
 accepted-rowed s day a = rowed (day .metal) (day .marks) (accepted-right s day a)
+
+-- and every contract of an accepted sheet is rounded to a step above 0
+pub accepted-step : (s : List ℕ) (day : Day) (c : ℕ) → judgeSheet s ≡ accepts day → 0 < stepOf (day .metal) c
+accepted-step s day c a = let r = metal-range (day .metal) (day .marks) (accepted-right s day a) in step-some (day .metal) c (r .0) (r .1)
 
 -- ---- instruments
 
