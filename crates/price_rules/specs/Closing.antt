@@ -36,12 +36,12 @@ figuresOf metal marks fs = record { metal = metal; marks = marks; trades = λ i.
 
 -- ---- implied prices
 
--- a quoted price added to the other leg's close, or taken from it
+-- RULES 2: a quoted price added to the other leg's close, or subtracted from it
 abbrev pub applied : Bool → ℤ → ℤ → ℤ
 applied true close price = close -ℤ price
 applied false close price = close +ℤ price
 
--- RULES 2: whether it is taken. A spread under its other leg, or a marked one, and not both
+-- RULES 2: whether it is subtracted. A spread under its other leg, or a marked one, and not both
 abbrev pub lessOf : Leg → Bool → Bool
 lessOf Outright mark = false
 lessOf (Over c) mark = mark
@@ -53,7 +53,7 @@ baseOf closes Outright = 0
 baseOf closes (Over c) = getD closes c 0
 baseOf closes (Under c) = getD closes c 0
 
--- RULES 5, the implied price, so many times over: of the outright its price, of a spread the other leg's close with the spread added or taken
+-- RULES 5, the implied price, so many times over: of the outright its price, of a spread the other leg's close with the spread added or subtracted
 unfoldable pub impliedBy : ℕ → List ℕ → ℕ → ℕ → ℤ → ℤ
 impliedBy marks closes i times price = applied (lessOf (legOf i) (marked marks i)) (pos (times * baseOf closes (legOf i))) price
 

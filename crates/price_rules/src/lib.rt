@@ -98,7 +98,7 @@ fn other_close(closes: &[u32], leg: Leg) -> u32
     }
 }
 
-// Whether a quoted price is taken from that close, and not added.
+// Whether a quoted price is subtracted from that close, and not added.
 fn less(leg: Leg, mark: bool) -> bool
     ensures { λ r. ⌜ r ≡ lessOf leg mark ⌝ }
 {
@@ -109,7 +109,7 @@ fn less(leg: Leg, mark: bool) -> bool
     }
 }
 
-// So many times the close, and the value added or taken.
+// So many times the close, and the value added or subtracted.
 fn apply(times: u64, close: u32, less: bool, value: i64) -> i64
     requires { ⌜ (times ≤ 10485760000) × (close ≤ 99999999) × (natAbs value ≤ 1048576000000000000) ⌝ }
     ensures { λ r. ⌜ r ≡ applied less (pos (times * close)) value ⌝ }
