@@ -2,7 +2,6 @@
 // and what is kept behind it.
 ghost use mathlib.Core.Path.{_≡_};
 ghost use Prim.Native.Nat.{_<_};
-ghost use Rattle.field.specs.Layout.{tagOf};
 ghost use Rattle.admit.specs.Admitting.{start, placed, countNumber, admitNumber, admitted, admitSays};
 ghost use Rattle.admit.specs.Admitting as Admitting;
 use field::Field;

@@ -2,7 +2,7 @@
 ghost use mathlib.Core.Path.{_≡_};
 ghost use mathlib.Core.Bool.{cond};
 ghost use lib.Dec.{eqb};
-ghost use Rattle.market.specs.Market.{metalOf, contracts, contractBy, contractOf, instruments, rowLeg, legOf, startOf, stepOf, inWindow, marked};
+ghost use Rattle.market.specs.Market.{metalOf, contracts, contractBy, instruments, rowLeg, legOf, startOf, inWindow, marked};
 ghost use Rattle.market.specs.laws.Rows.{startIn};
 
 // A metal's spread start and anchor start, in milliseconds of the day, and its 3M step, in cents.

@@ -1,6 +1,5 @@
 -- Any two results that a function's contract permits are equal. Assumes nothing.
 use Rattle.promise.specs.Once.{Once}
-use Rattle.promise.specs.laws.Once.{once}
 use Rattle.sheet.specs.laws.Judgement.{judged-once}
 use Rattle.sheet.proofs.judge_sheet.Reads as judge-sheet
 use Rattle.sheet.proofs.judge_sheet.Kinds as judge-sheetK

@@ -1,11 +1,8 @@
 -- A sheet as a list: what stands at byte 0, at the place behind that, and so on. Any bytes have such a list; its last entry is a refusal.
 use Prim.Native.Nat.{ℕ, zero, suc, _+_, _-_}
-use mathlib.Core.Bool.{Bool, true, false}
 use mathlib.Core.List.{List, [], _∷_, _++_}
 use lib.ListN.{length}
-use lib.Dec.{eqb}
 use Rattle.field.specs.declared.Field.{Field}
-use Rattle.field.specs.declared.Field.the-variants.{Header, PreviousClose, Trade, Quote, End}
 use Rattle.field.specs.Layout.{fieldBytes}
 use Rattle.field.specs.Said.{Said, gives, refuses}
 use Rattle.field.specs.Reading.{shapeAt}

@@ -15,7 +15,6 @@ use price_rules::Answer;
 use price_rules::Book;
 use price_rules::Closed;
 use price_rules::SixAnswers;
-use sheet::Day;
 use sheet::Judged;
 use trades::Total;
 use trades::totals;

@@ -1,6 +1,6 @@
 // Text that is put together from byte strings and numbers, and put into a lent buffer whole or not at all.
 ghost use mathlib.Core.Path.{_≡_};
-ghost use Prim.Native.Nat.{ℕ, _+_, _≤_};
+ghost use Prim.Native.Nat.{_+_, _≤_};
 ghost use lib.ListN.{length};
 ghost use Rattle.text.specs.Over.{over, putPlace, putBuffer};
 ghost use Rattle.text.specs.Held.{Added, emptyText, held, placeAfter, bufferAfter};

@@ -7,7 +7,7 @@ ghost use Rattle.field.specs.Reading.{bodyAt};
 ghost use Rattle.field.specs.laws.Field.{Headed};
 ghost use Rattle.sheet.specs.Fields.{fieldsOf};
 ghost use Rattle.trades.specs.Trades.{noTrades, totalsOf, Told};
-ghost use Rattle.trades.specs.laws.Trades.{Small, AllSmall};
+ghost use Rattle.trades.specs.laws.Trades.{Small};
 ghost use Rattle.trades.specs.laws.Pass.{withTrade, countedIn, Filled};
 use field::Field;
 use field::Price;

@@ -1,13 +1,13 @@
 -- What the code prices from: an accepted sheet and the book of its header and totals; and that this is what the definitions price from.
 -- Assumes nothing.
-use Prim.Native.Nat.{ℕ, zero, suc, _+_, _-_, _≤_, _<_}
-use mathlib.Core.Path.{_≡_, refl, sym, ap, _∙_, subst}
+use Prim.Native.Nat.{ℕ, _-_, _≤_, _<_}
+use mathlib.Core.Path.{_≡_, refl, sym, subst}
 use mathlib.Core.Bool.{Bool, true, false, cond}
-use mathlib.Core.List.{List, [], _∷_}
+use mathlib.Core.List.{List}
 use native.Mathlib.Omega.{arith}
 use lib.Dec.{leb, leb→le}
 use lib.IntN.{ℤ, natAbs}
-use lib.ListN.{getD, length}
+use lib.ListN.{length}
 use Rattle.market.specs.Market.{minimumLots, contracts, contractOf, instruments, startOf, stepOf}
 use Rattle.market.specs.laws.Table.{below}
 use Rattle.market.specs.laws.Rules.{ruled}
@@ -25,7 +25,7 @@ use Rattle.price_rules.specs.declared.Mean.{Mean}
 use Rattle.price_rules.specs.declared.Mean.the-variants.{Of}
 use Rattle.price_rules.specs.declared.Book.{Book}
 use Rattle.price_rules.specs.declared.Sum.{Sum}
-use Rattle.price_rules.specs.Closing.{Figures, figuresOf, twapBy, lotsOf, meanOf, answered, rowAnswer}
+use Rattle.price_rules.specs.Closing.{Figures, figuresOf, twapBy, answered, rowAnswer}
 use Rattle.price_rules.specs.laws.Adding.{Tallied, paired, sumBy, sum-is}
 
 -- the sheet is accepted, and the book has the totals of its trades by the book's metal

@@ -12,10 +12,10 @@ use lib.Seq.{length-take-le}
 use Rattle.wire.specs.Big.{be2At}
 use Rattle.field.specs.declared.Field.{Field}
 use Rattle.field.specs.declared.Field.the-variants.{Header, PreviousClose, Trade, Quote, End}
-use Rattle.field.specs.Judging.{fine, unless, also, both, pick, within, judge}
+use Rattle.field.specs.Judging.{fine, unless, also, both, within, judge}
 use Rattle.field.specs.Layout.{tagRight, lengthOf, sizeOf, tagOf, bodyBytes, fieldBytes, fieldOf}
 use Rattle.field.specs.Said.{Said, gives, refuses, settled}
-use Rattle.field.specs.Reading.{remaining, taggedNumber, headNumber, bodyAt, shapeBy, shapeAt, judged, readField, partOf, bodyOf}
+use Rattle.field.specs.Reading.{remaining, taggedNumber, headNumber, bodyAt, shapeAt, judged, readField, partOf, bodyOf}
 use Rattle.field.specs.Writing.{fieldSize, writeNumber, written, over, bufferAfter}
 
 -- what is false proves anything

@@ -12,7 +12,7 @@ use lib.Signed.{leZ}
 use Rattle.field.specs.declared.Price.{Price}
 use Rattle.field.specs.declared.Field.{Field}
 use Rattle.field.specs.declared.Field.the-variants.{Header, PreviousClose, Trade, Quote, End}
-use Rattle.field.specs.Judging.{fine, unless, both, pick, ifPresent, ifAbsent, within, centsWithin, headerRight, instrumentRight, timeRight, priceRight, lotsRight, hasBid, hasOffer, sidesRight, sidePricesRight, ordered, stamped, judge}
+use Rattle.field.specs.Judging.{fine, pick, ifPresent, ifAbsent, within, centsWithin, headerRight, instrumentRight, timeRight, priceRight, lotsRight, hasBid, hasOffer, sidesRight, sidePricesRight, ordered, stamped, judge}
 use Rattle.field.specs.laws.Field.{clash, unless-fine, unless-passed, both-true, both-holds, within-true}
 
 -- a record's instrument and time

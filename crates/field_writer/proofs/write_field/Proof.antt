@@ -1,13 +1,11 @@
 -- `field_writer::write_field` meets its contract. Assumes nothing.
 use Rattle.raw_writer.proofs.Parts.{put-part}
 use Rattle.field.specs.laws.Field.{MayWrite, may-write, field-length, written-fine, written-not}
-use Rattle.field.specs.Said.{gives}
 use Rattle.field.specs.Layout.{fieldBytes}
 use lib.ListN.{length, length-take, length-drop}
 use denote.Ref.{now}
 use native.Mathlib.Omega.{arith}
-use Prim.Native.Nat.{ℕ, _+_}
-use mathlib.Core.Path.{sym, ap, _∙_}
+use mathlib.Core.Path.{sym, _∙_}
 use borrow.Author.Needs.{needs}
 use Rattle.field_writer.proofs.write_field.Statement.{statement}
 use Rattle.field_writer.proofs.write_field.Tie as tie

@@ -1,7 +1,6 @@
 -- The list of the Nickel sheet of RULES 10, and the lines of refusals. Assumes nothing.
-use Prim.Native.Nat.{ℕ}
 use mathlib.Core.Path.{_≡_, refl}
-use mathlib.Core.List.{List, [], _∷_}
+use mathlib.Core.List.{[], _∷_}
 use Rattle.text.specs.Ascii.{ascii}
 use Rattle.text.specs.Decimal.{decimalIn}
 use Rattle.sheet.specs.declared.Day.{Day}

@@ -1,5 +1,5 @@
 -- `names::put_metal` meets its contract. Assumes nothing.
-use mathlib.Core.Path.{sym, ap, _∙_}
+use mathlib.Core.Path.{ap, _∙_}
 use borrow.Author.Needs.{needs}
 use Rattle.text.specs.Held.{held, _⊕_}
 use Rattle.names.specs.Names.{metalName}

@@ -2,14 +2,14 @@
 --     Case, Holds    a row of the table, and what it is for it to hold
 --     cases          the table;  cases-hold    every row of it holds
 -- Assumes nothing.
-use Prim.Native.Nat.{ℕ, _+_, _*_}
-use mathlib.Core.Path.{_≡_, refl, sym, ap, _∙_}
+use Prim.Native.Nat.{ℕ, _*_}
+use mathlib.Core.Path.{_≡_, refl, ap, _∙_}
 use mathlib.Core.List.{List, [], _∷_}
 use lib.Dec.{lit≤}
 use lib.IntN.{ℤ, pos, negℤ}
 use Rattle.field.specs.declared.Field.{Field}
-use Rattle.field.specs.declared.Field.the-variants.{PreviousClose, Trade, Quote}
-use Rattle.market.specs.Market.{3M, M3, M2, M4, M1, Cash, metalOf, contractOf, legOf, stepOf, startOf, inWindow, marked, windowLength}
+use Rattle.field.specs.declared.Field.the-variants.{PreviousClose, Trade}
+use Rattle.market.specs.Market.{M3, M2, M4, M1, Cash, metalOf, contractOf, legOf, stepOf, startOf, inWindow, marked}
 use Rattle.market.specs.laws.Rows.{window-length}
 use Rattle.cents.specs.Round.{round}
 use Rattle.price_rules.specs.declared.Method.the-variants.{Vwap, Twap}

@@ -4,13 +4,13 @@
 --     refused-long  1 is earned by length alone;  refused-byte    every byte of a refusal is in the sheet or at its end
 -- Assumes nothing.
 use Prim.Native.Nat.{ℕ, _+_, _≤_, _<_}
-use mathlib.Core.Path.{_≡_, refl, sym, _∙_, ap, subst}
+use mathlib.Core.Path.{_≡_, refl, _∙_, subst}
 use mathlib.Core.Bool.{Bool, true, false}
 use mathlib.Core.List.{List, [], _∷_, _++_}
 use native.Mathlib.Omega.{arith}
 use borrow.Author.Tests.{le-leb, lt-leb, leb-true, leb-false, eqb-false, ne-eqb}
 use lib.Dec.{leb, eqb}
-use lib.ListN.{length, take, drop}
+use lib.ListN.{length, drop}
 use Rattle.wire.specs.Big.{Bytes}
 use Rattle.field.specs.declared.Field.{Field}
 use Rattle.field.specs.Said.{gives, refuses}
@@ -20,7 +20,7 @@ use Rattle.admit.specs.declared.Progress.{Progress}
 use Rattle.admit.specs.Admitting.{start, Step, goes, ends, stops, admit}
 use Rattle.admit.specs.laws.Admitting.{stopped, went-counts, admit-all}
 use Rattle.sheet.specs.Fields.{readsAt, encode}
-use Rattle.sheet.specs.Judgement.{Verdict, accepts, refuses-at, dayOf, atEnd, after, judgeReads, judgeSheet}
+use Rattle.sheet.specs.Judgement.{accepts, refuses-at, dayOf, atEnd, after, judgeReads, judgeSheet}
 use Rattle.sheet.specs.laws.Walk.{shape-grows, reads-gave, reads-stop, walk-ind}
 use Rattle.sheet.specs.laws.Led.{Led, none, one, led-more, Stood, here, then, stood-more, led-judges, stood-bytes}
 

@@ -1,25 +1,18 @@
 -- A pass over a sheet's bytes that reads by `shape_at` until it refuses, and makes anything of the fields so far: the loop's invariant as a
 -- record, `Sofar`, and a law for each place of the loop. A pass cites them at what it makes of the fields.
 -- Assumes nothing.
-use Prim.Native.Nat.{ℕ, _+_, _*_, _^_, _<_, _≤_}
+use Prim.Native.Nat.{ℕ, _+_, _≤_}
 use mathlib.Core.Path.{_≡_, refl, sym, _∙_, ap}
-use mathlib.Core.Bool.{Bool, true, false}
 use mathlib.Core.List.{List, [], _∷_, _++_, append-assoc, append-nil}
-use native.Mathlib.Nat.{zero-add, mul-suc, mul-le-mul-left, mul-le-mul}
 use native.Mathlib.Omega.{arith}
-use borrow.Author.Needs.{needs}
-use borrow.Author.Tests.{leb-true}
-use lib.Dec.{leb}
 use lib.ListN.{length, length-append}
-use mir.Syntax.{w64}
-use mir.Val.{Fits}
 use Rattle.field.specs.declared.Field.{Field}
 use Rattle.field.specs.declared.Read.{Read}
 use Rattle.field.specs.declared.Read.the-variants as R
 use Rattle.field.specs.Said.{readSays}
 use Rattle.field.specs.Reading.{shapeAt}
 use Rattle.sheet.specs.Fields.{fieldsAt, fieldsOf, Each}
-use Rattle.sheet.specs.laws.Walk.{shape-grows, fields-gave, fields-stop, read-gave, read-stopped, less-read}
+use Rattle.sheet.specs.laws.Walk.{shape-grows, fields-gave, fields-stop, read-gave, read-stopped}
 
 -- `a` is what h makes of the fields before `at`, which are no more than the bytes there
 pub record Sofar {A : Type 0} (h : List Field → A) (s : List ℕ) (at : ℕ) (a : A) : Type 0 where
