@@ -1,5 +1,5 @@
 // Rounding to a price: a sum of cents over its divisor, to a step, halves up, and whether that is a close. Everything that prices a
-// contract ends here. specs/ has the number itself, its laws, and the laws of signed whole numbers that the other crates use.
+// contract ends here. specs/ has the number itself, specs/laws its laws and those of signed whole numbers that the other crates use.
 ghost use mathlib.Core.Path.{_≡_};
 ghost use Prim.Native.Nat.{_+_, _^_, _<_};
 ghost use lib.IntN.{pos};

@@ -1,5 +1,5 @@
 // The indicator of one instrument, a small state handed back changed by each record, and its value. Hosts don't call it.
-// specs/ has the indicator at each millisecond of a window, its sum, and the laws of that sum.
+// specs/ has the indicator at each millisecond of a window and its sum, specs/laws the laws of that sum.
 ghost use mathlib.Core.Path.{_≡_};
 ghost use Rattle.indicator.specs.Indicator.{empty, sideOf, elseAt, present, below, belowOffer, insideBook, bookFrom, afterClose, afterTrade, afterQuote, valueOf, taken};
 use field::Field;

@@ -1,4 +1,4 @@
--- RULES 4 to 9: the six answers, from the trades of each instrument that count and the sum of its indicator.
+-- RULES 2 and 4 to 9: the six answers, from the trades of each instrument that count and the sum of its indicator.
 use Prim.Native.Nat.{ℕ, zero, suc, _+_, _-_, _*_}
 use mathlib.Core.Bool.{Bool, true, false, not, cond}
 use mathlib.Core.List.{List, [], _∷_}
