@@ -22,7 +22,7 @@ use Rattle.market.specs.declared.Leg.the-variants.{Outright, Over, Under
 use Rattle.market.specs.declared.Contract.{Contract}
 use Rattle.market.specs.Market.{metalOf, contractOf, instruments, legOf, startOf, stepOf, windowLength}
 use Rattle.market.specs.laws.Rows.{window-length}
-use Rattle.market.specs.laws.Table.{upTo, below}
+use Rattle.market.specs.laws.Table.{upTo, below, from-one}
 use Rattle.market.specs.laws.Rows.{metal-none}
 
 -- ---- the two tables agree
@@ -112,8 +112,7 @@ ruled c h = record {
 
 -- the test f passes at the row of each metal
 by-metal : (f : Metal → Bool) → T (upTo (λ m. f (metalOf (suc m))) 5) → (m : ℕ) → 1 ≤ m → m ≤ 5 → T (f (metalOf m))
-by-metal f t zero l h = absurd (omega arith)
-by-metal f t (suc m) l h = below (λ m. f (metalOf (suc m))) 5 m t (omega arith)
+by-metal f t m l h = from-one (λ m. f (metalOf m)) 5 m t l h
 
 pub follows : (m : ℕ) → 1 ≤ m → m ≤ 5 → metalOf m .anchor ≡ metalOf m .spread + windowLength
 unfolding metalOf

@@ -1,6 +1,6 @@
 -- A rule of a table, proved at every place by one test that is computed over the whole table.
 -- Assumes nothing.
-use Prim.Native.Nat.{ℕ, zero, suc, _<_}
+use Prim.Native.Nat.{ℕ, zero, suc, _≤_, _<_}
 use mathlib.Core.Path.{_≡_, subst}
 use mathlib.Core.Bool.{Bool, true, false}
 use native.Mathlib.Decide.{decLt}
@@ -32,3 +32,8 @@ below f (suc n) k t h = by-last (λ l. below f n k (both-right (f n) (upTo f n) 
     by-last : (k < n → T (f k)) → Dec (k < n) → T (f k)
     by-last rest (yes l) = rest l
     by-last rest (no l) = let e : n ≡ k = omega arith in subst (λ (m : ℕ). T (f m)) e (both-left (f n) (upTo f n) t)
+
+-- and so at each number from 1 to n, of a table that is counted from 1
+pub from-one : (f : ℕ → Bool) (n k : ℕ) → T (upTo (λ m. f (suc m)) n) → 1 ≤ k → k ≤ n → T (f k)
+from-one f n zero t l h = absurd (omega arith)
+from-one f n (suc k) t l h = below (λ m. f (suc m)) n k t h

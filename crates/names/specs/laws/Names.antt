@@ -6,7 +6,7 @@ use mathlib.Core.List.{List, [], _∷_}
 use native.Mathlib.Omega.{arith}
 use lib.Dec.{T, leb, leb→le}
 use lib.ListN.{getD, List·getD-eq-default, length}
-use Rattle.market.specs.laws.Table.{both, both-left, both-right, below}
+use Rattle.market.specs.laws.Table.{both, both-left, both-right, from-one}
 use Rattle.field.specs.Judging.{headerRight}
 use Rattle.field.specs.laws.Sound.{metal-range}
 use Rattle.sheet.specs.declared.Day.{Day}
@@ -56,11 +56,9 @@ method-length Twap = omega arith
 
 pub named : (m marks : ℕ) → headerRight m marks ≡ true → 1 ≤ length (metalName m)
 unfolding metalName
-named m marks e = by-range m (metal-range m marks e)
-  where
-    by-range : (m : ℕ) → (1 ≤ m) × (m ≤ 5) → 1 ≤ length (metalName m)
-    by-range zero (l, h) = absurd (omega arith)
-    by-range (suc m) (l, h) = leb→le 1 (length (getD metalNames m [])) (below (λ m. leb 1 (length (getD metalNames m []))) 5 m tt (omega arith))
+named m marks e =
+    let range = metal-range m marks e in
+    leb→le 1 (length (metalName m)) (from-one (λ m. leb 1 (length (metalName m))) 5 m tt (range .0) (omega (arith, range .1)))
 
 pub accepted-named : (s : List ℕ) (day : Day) → judgeSheet s ≡ accepts day → 1 ≤ length (metalName (day .metal))
 accepted-named s day a = named (day .metal) (day .marks) (accepted-right s day a)

@@ -4,7 +4,7 @@
 --     accepted-step             every contract of an accepted sheet has a step above 0
 --     lined, accepted-lined     a right instrument has a row, and so has that of every field of an accepted sheet
 -- Assumes nothing.
-use Prim.Native.Nat.{ℕ, zero, suc, _+_, _≤_, _<_}
+use Prim.Native.Nat.{ℕ, _+_, _≤_, _<_}
 use mathlib.Core.Path.{_≡_}
 use mathlib.Core.Bool.{Bool, true}
 use mathlib.Core.List.{List, [], _∷_}
@@ -19,7 +19,7 @@ use Rattle.market.specs.declared.Metal.{Metal}
 use Rattle.market.specs.Market.{metals, metalOf, instruments, stepOf, windowLength}
 use Rattle.market.specs.laws.Rows.{window-length}
 use Rattle.market.specs.laws.Rules.{step-some}
-use Rattle.market.specs.laws.Table.{both, both-left, both-right, below}
+use Rattle.market.specs.laws.Table.{both, both-left, both-right, from-one}
 use Rattle.sheet.specs.declared.Day.{Day}
 use Rattle.sheet.specs.Fields.{fieldsOf, Each}
 use Rattle.sheet.specs.Judgement.{accepts, judgeSheet}
@@ -44,21 +44,18 @@ usable r = both (leb 1 (r .step)) (inDay r)
 
 pub rowed : (m marks : ℕ) → headerRight m marks ≡ true → Rowed m
 unfolding metalOf
-rowed m marks e = by-range m (metal-range m marks e)
-  where
-    by-range : (m : ℕ) → (1 ≤ m) × (m ≤ 5) → Rowed m
-    by-range zero (l, h) = absurd (omega arith)
-    by-range (suc m) (l, h) =
-        let r = metalOf (suc m) in
-        let t = below (λ m. usable (metalOf (suc m))) 5 m tt (omega arith) in
-        let windows = both-right (leb 1 (r .step)) (inDay r) t in
-        record {
-          counted = l;
-          there = h;
-          step = leb→le 1 (r .step) (both-left (leb 1 (r .step)) (inDay r) t);
-          spread = rw window-length (leb→le (r .spread + 300000) 86400000 (both-left (leb (r .spread + 300000) 86400000) (leb (r .anchor + 300000) 86400000) windows));
-          anchor = rw window-length (leb→le (r .anchor + 300000) 86400000 (both-right (leb (r .spread + 300000) 86400000) (leb (r .anchor + 300000) 86400000) windows));
-        }
+rowed m marks e =
+    let range = metal-range m marks e in
+    let r = metalOf m in
+    let t = from-one (λ m. usable (metalOf m)) 5 m tt (range .0) (omega (arith, range .1)) in
+    let windows = both-right (leb 1 (r .step)) (inDay r) t in
+    record {
+      counted = range .0;
+      there = range .1;
+      step = leb→le 1 (r .step) (both-left (leb 1 (r .step)) (inDay r) t);
+      spread = rw window-length (leb→le (r .spread + 300000) 86400000 (both-left (leb (r .spread + 300000) 86400000) (leb (r .anchor + 300000) 86400000) windows));
+      anchor = rw window-length (leb→le (r .anchor + 300000) 86400000 (both-right (leb (r .spread + 300000) 86400000) (leb (r .anchor + 300000) 86400000) windows));
+    }
 
 pub accepted-rowed : (s : List ℕ) (day : Day) → judgeSheet s ≡ accepts day → Rowed (day .metal)
 accepted-rowed s day a = rowed (day .metal) (day .marks) (accepted-right s day a)
