@@ -13,8 +13,6 @@ use Rattle.indicator.proofs.Indicator.has_reference.Reads as has-refere
 use Rattle.indicator.proofs.Indicator.has_reference.Kinds as has-referenceK
 use Rattle.indicator.proofs.Indicator.value.Reads as value
 use Rattle.indicator.proofs.Indicator.value.Kinds as valueK
-use Rattle.indicator.proofs.book_from.Reads as book-from
-use Rattle.indicator.proofs.book_from.Kinds as book-fromK
 use Rattle.indicator.proofs.take_field.Reads as take-field
 use Rattle.indicator.proofs.take_field.Kinds as take-fieldK
 
@@ -35,9 +33,6 @@ has-reference-once κs a x y s t p q = once p q
 
 pub value-once : Once 0 valueK.ps valueK.r value.Post (λ κs x s. x)
 value-once κs a x y s t p q = once p q
-
-pub book-from-once : Once 0 book-fromK.ps book-fromK.r book-from.Post (λ κs x s. x)
-book-from-once κs a x y s t p q = once p q
 
 pub take-field-once : Once 0 take-fieldK.ps take-fieldK.r take-field.Post (λ κs x s. x)
 take-field-once κs a x y s t p q = once p q

@@ -77,17 +77,13 @@ valueOf s = valueBy (s .reference) (s .bid) (s .offer)
 
 -- ---- the fields of a sheet
 
--- RULES 7: the book is empty at the window's start, and is filled by quotes stamped inside the window alone: those from its start on
-unfoldable pub bookFrom : ℕ → ℕ
-bookFrom start = start
-
--- what a field does to the state of instrument i, whose window starts at start
-unfoldable pub taken : ℕ → ℕ → Indicator → Field → Indicator
-taken i start s (Header metal marks) = s
-taken i start s (PreviousClose instrument price) = cond (eqb instrument i) (afterClose s price) s
-taken i start s (Trade time instrument price lots) = cond (eqb instrument i) (afterTrade s price) s
-taken i start s (Quote time instrument sides bid offer) = cond (eqb instrument i) (cond (leb (bookFrom start) time) (afterQuote s sides bid offer) s) s
-taken i start s (End count) = s
+-- what a field does to the state of instrument i
+unfoldable pub taken : ℕ → Indicator → Field → Indicator
+taken i s (Header metal marks) = s
+taken i s (PreviousClose instrument price) = cond (eqb instrument i) (afterClose s price) s
+taken i s (Trade time instrument price lots) = cond (eqb instrument i) (afterTrade s price) s
+taken i s (Quote time instrument sides bid offer) = cond (eqb instrument i) (afterQuote s sides bid offer) s
+taken i s (End count) = s
 
 -- the millisecond from which a field counts: a record's time; any other field counts all day
 abbrev pub stamp : Field → ℕ
@@ -98,21 +94,21 @@ stamp (Quote time instrument sides bid offer) = time
 stamp (End count) = 0
 
 -- the state s after every field of the list that counts at the millisecond t
-unfoldable pub afterFrom : ℕ → ℕ → ℕ → Indicator → List Field → Indicator
-afterFrom i start t s [] = s
-afterFrom i start t s (f ∷ fs) = afterFrom i start t (cond (leb (stamp f) t) (taken i start s f) s) fs
+unfoldable pub afterFrom : ℕ → ℕ → Indicator → List Field → Indicator
+afterFrom i t s [] = s
+afterFrom i t s (f ∷ fs) = afterFrom i t (cond (leb (stamp f) t) (taken i s f) s) fs
 
--- the same from the day's start on: no reference, and an empty book
-abbrev pub after : ℕ → ℕ → ℕ → List Field → Indicator
-after i start t fs = afterFrom i start t empty fs
+-- RULES 7: the same from the day's start on, with no reference and an empty book. Every trade and quote of the day counts, whatever its time
+abbrev pub after : ℕ → ℕ → List Field → Indicator
+after i t fs = afterFrom i t empty fs
 
 -- RULES 7: the indicator at a millisecond, behind every record of that millisecond
-abbrev pub indicatorAt : ℕ → ℕ → ℕ → List Field → Side
-indicatorAt i start t fs = valueOf (after i start t fs)
+abbrev pub indicatorAt : ℕ → ℕ → List Field → Side
+indicatorAt i t fs = valueOf (after i t fs)
 
 -- the same in cents, as a function of the millisecond
-abbrev pub centsAt : ℕ → ℕ → List Field → ℕ → ℤ
-centsAt i start fs t = centsOf (indicatorAt i start t fs)
+abbrev pub centsAt : ℕ → List Field → ℕ → ℤ
+centsAt i fs t = centsOf (indicatorAt i t fs)
 
 -- f t + f (t + 1) + .., n of them
 unfoldable pub sumFrom : (ℕ → ℤ) → ℕ → ℕ → ℤ
@@ -121,8 +117,8 @@ sumFrom f t (suc n) = sumFrom f t n +ℤ f (t + n)
 
 -- RULES 6: the sum of the indicator over the window's milliseconds
 abbrev pub twapSum : ℕ → ℕ → List Field → ℤ
-twapSum i start fs = sumFrom (centsAt i start fs) start windowLength
+twapSum i start fs = sumFrom (centsAt i fs) start windowLength
 
 -- RULES 9, 13: whether there is a reference at the window's first millisecond
 abbrev pub hasReference : ℕ → ℕ → List Field → Bool
-hasReference i start fs = present (after i start start fs .reference)
+hasReference i start fs = present (after i start fs .reference)

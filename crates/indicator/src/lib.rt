@@ -1,7 +1,7 @@
 // The indicator of one instrument, a small state handed back changed by each record, and its value. Hosts don't call it.
 // specs/ has the indicator at each millisecond of a window and its sum, specs/laws the laws of that sum.
 ghost use mathlib.Core.Path.{_≡_};
-ghost use Rattle.indicator.specs.Indicator.{empty, sideOf, elseAt, present, below, belowOffer, insideBook, bookFrom, afterClose, afterTrade, afterQuote, valueOf, taken};
+ghost use Rattle.indicator.specs.Indicator.{empty, sideOf, elseAt, present, below, belowOffer, insideBook, afterClose, afterTrade, afterQuote, valueOf, taken};
 use field::Field;
 use field::Price;
 
@@ -137,8 +137,8 @@ impl Indicator {
     pub fn has_reference(self) -> bool
         ensures { λ r. ⌜ r ≡ present (self .reference) ⌝ }
     {
-        let reference = self.reference;
-        match reference {
+        let told = self.reference;
+        match told {
             Side::Absent => false,
             Side::At(_) => true,
         }
@@ -158,16 +158,9 @@ impl Indicator {
     }
 }
 
-// From which time on quote records fill the book of a window.
-pub fn book_from(start: u32) -> u32
-    ensures { λ r. ⌜ r ≡ bookFrom start ⌝ }
-{
-    start
-}
-
-// The state of an instrument whose window starts at start, after one field more.
-pub fn take_field(state: Indicator, instrument: u8, start: u32, field: Field) -> Indicator
-    ensures { λ r. ⌜ r ≡ taken instrument start state field ⌝ }
+// The state of an instrument after one field more.
+pub fn take_field(state: Indicator, instrument: u8, field: Field) -> Indicator
+    ensures { λ r. ⌜ r ≡ taken instrument state field ⌝ }
 {
     match field {
         Field::Header { metal: _, marks: _ } => state,
@@ -192,16 +185,14 @@ pub fn take_field(state: Indicator, instrument: u8, start: u32, field: Field) ->
             state
         }
         Field::Quote {
-            time,
+            time: _,
             instrument: of,
             sides,
             bid,
             offer,
         } => {
             if of == instrument {
-                if book_from(start) <= time {
-                    return state.quote(sides, bid, offer);
-                }
+                return state.quote(sides, bid, offer);
             }
             state
         }

@@ -60,9 +60,9 @@ fn stamp_of(field: Field) -> u64
 }
 
 // Takes every field that counts at the millisecond, and stops at the first that comes later.
-fn advance(sheet: &[u8], instrument: u8, start: u32, millisecond: u64, walk: Walk) -> Walk
-    requires { ⌜ Stands instrument start millisecond (now sheet) walk × (millisecond < 18446744073709551615) ⌝ }
-    ensures { λ r. ⌜ Stands instrument start millisecond (now (sheet .entry)) r × (millisecond < r .due) ⌝ }
+fn advance(sheet: &[u8], instrument: u8, millisecond: u64, walk: Walk) -> Walk
+    requires { ⌜ Stands instrument millisecond (now sheet) walk × (millisecond < 18446744073709551615) ⌝ }
+    ensures { λ r. ⌜ Stands instrument millisecond (now (sheet .entry)) r × (millisecond < r .due) ⌝ }
 {
     let mut state = walk.state;
     let mut at = walk.at;
@@ -73,7 +73,7 @@ fn advance(sheet: &[u8], instrument: u8, start: u32, millisecond: u64, walk: Wal
                 if millisecond < due {
                     return Walk { state, at, due };
                 }
-                state = take_field(state, instrument, start, field);
+                state = take_field(state, instrument, field);
                 at = next;
             }
             Read::Refused(_, _) => {
@@ -88,12 +88,12 @@ fn advance(sheet: &[u8], instrument: u8, start: u32, millisecond: u64, walk: Wal
 }
 
 // The walk at a millisecond: no field is read where none is due.
-fn stand_at(sheet: &[u8], instrument: u8, start: u32, millisecond: u64, walk: Walk) -> Walk
-    requires { ⌜ Stands instrument start millisecond (now sheet) walk × (millisecond < 18446744073709551615) ⌝ }
-    ensures { λ r. ⌜ Stands instrument start millisecond (now (sheet .entry)) r × (millisecond < r .due) ⌝ }
+fn stand_at(sheet: &[u8], instrument: u8, millisecond: u64, walk: Walk) -> Walk
+    requires { ⌜ Stands instrument millisecond (now sheet) walk × (millisecond < 18446744073709551615) ⌝ }
+    ensures { λ r. ⌜ Stands instrument millisecond (now (sheet .entry)) r × (millisecond < r .due) ⌝ }
 {
     if walk.due <= millisecond {
-        advance(sheet, instrument, start, millisecond, walk)
+        advance(sheet, instrument, millisecond, walk)
     } else {
         walk
     }
@@ -115,7 +115,7 @@ fn plus(total: Total, side: Side) -> Total
 // The sum over the window's milliseconds, one after the other, from a walk that stands at the first.
 fn sum_from(sheet: &[u8], instrument: u8, start: u32, first: Walk) -> Total
     requires { ⌜ Accepted (now sheet) ⌝ }
-    requires { ⌜ Stands instrument start start (now sheet) first ⌝ }
+    requires { ⌜ Stands instrument start (now sheet) first ⌝ }
     ensures { λ r. ⌜ r .cents ≡ twapSum instrument start (fieldsOf (now (sheet .entry))) ⌝ }
 {
     let mut walk = first;
@@ -123,7 +123,7 @@ fn sum_from(sheet: &[u8], instrument: u8, start: u32, first: Walk) -> Total
     let mut past: u32 = 0;
     while past < WINDOW {
         let millisecond = start as u64 + past as u64;
-        walk = stand_at(sheet, instrument, start, millisecond, walk);
+        walk = stand_at(sheet, instrument, millisecond, walk);
         let state = walk.state;
         total = plus(total, state.value());
         past += 1;
@@ -141,7 +141,7 @@ pub fn span_of(sheet: &[u8], instrument: u8, start: u32) -> Summed
         at: 0,
         due: 0,
     };
-    let first = advance(sheet, instrument, start, start as u64, none);
+    let first = advance(sheet, instrument, start as u64, none);
     let state = first.state;
     if state.has_reference() {
         return Summed::Sum(sum_from(sheet, instrument, start, first));

@@ -78,7 +78,7 @@ unfolding spanOf
 summable s a i start = by (hasReference i start (fieldsOf s))
   where
     by : (t : Bool) → Summable (cond t (sum (twapSum i start (fieldsOf s))) missing)
-    by true = omega (arith, span-size i start s a)
+    by true = omega (arith, span-size i s a start)
     by false = tt
 
 pub span-small : (s : List ℕ) → Accepted s → (i start : ℕ) {z : ℤ} → sum z ≡ spanOf i start (fieldsOf s) → natAbs z ≤ 29999999700000

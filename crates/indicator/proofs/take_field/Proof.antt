@@ -1,7 +1,6 @@
 -- `indicator::take_field` meets its contract. Assumes nothing.
 use Rattle.indicator.specs.Indicator.{taken}
-use borrow.Author.Tests.{le-leb, lt-leb, eq-eqb, ne-eqb}
-use mathlib.Core.Path.{sym}
+use borrow.Author.Tests.{eq-eqb, ne-eqb}
 use borrow.Author.Needs.{needs}
 use Rattle.indicator.proofs.take_field.Statement.{statement}
 use Rattle.indicator.proofs.take_field.Tie as tie
@@ -32,15 +31,12 @@ returns-2 c = simp (c .trade .ensures, c .before .before .before .field2 .given 
 enum-known-field-3 : tie.Need-enum-known-field-3
 enum-known-field-3 c = search needs
 
-book-from-requires : tie.Need-book-from-requires
-book-from-requires c κs = search needs
-
 quote-requires : tie.Need-quote-requires
 quote-requires c κs = search needs
 
 returns-3 : tie.Need-returns-3
 unfolding taken
-returns-3 c = simp (c .quote .ensures, c .before .before .before .before .before .field3 .given .1, eq-eqb _ _ (c .before .before .before .if3 .taken), sym (c .before .before .book-from .ensures), le-leb _ _ (c .before .if4 .taken))
+returns-3 c = simp (c .quote .ensures, c .before .before .before .field3 .given .1, eq-eqb _ _ (c .before .if3 .taken))
 
 enum-told-2 : tie.Need-enum-told-2
 enum-told-2 c = search needs
@@ -59,15 +55,11 @@ returns-6 c = simp (c .before .before .field2 .given .1, ne-eqb _ _ (c .if2 .lef
 
 returns-7 : tie.Need-returns-7
 unfolding taken
-returns-7 c = simp (c .before .before .before .before .field3 .given .1, eq-eqb _ _ (c .before .before .if3 .taken), sym (c .before .book-from .ensures), lt-leb _ _ (c .if4 .left))
+returns-7 c = simp (c .before .before .field3 .given .1, ne-eqb _ _ (c .if3 .left))
 
 returns-8 : tie.Need-returns-8
 unfolding taken
-returns-8 c = simp (c .before .before .field3 .given .1, ne-eqb _ _ (c .if3 .left))
-
-returns-9 : tie.Need-returns-9
-unfolding taken
-returns-9 c = simp (c .enum-told2 .given .1)
+returns-8 c = simp (c .enum-told2 .given .1)
 
 pub take-field-spec : {M : Type 1} → statement M
 take-field-spec =
@@ -81,7 +73,6 @@ take-field-spec =
     trade-requires
     returns-2
     enum-known-field-3
-    book-from-requires
     quote-requires
     returns-3
     enum-told-2
@@ -89,5 +80,4 @@ take-field-spec =
     returns-5
     returns-6
     returns-7
-    returns-8
-    returns-9)
+    returns-8)

@@ -15,7 +15,7 @@ use Rattle.field.specs.Repriced.{concerns, changed, Sides, repriced}
 use Rattle.indicator.specs.declared.Side.{Side}
 use Rattle.indicator.specs.declared.Side.the-variants.{Absent, At}
 use Rattle.indicator.specs.declared.Indicator.{Indicator}
-use Rattle.indicator.specs.Indicator.{present, empty, elseAt, afterTrade, afterClose, afterQuote, bookFrom, taken, stamp, afterFrom, after}
+use Rattle.indicator.specs.Indicator.{present, empty, elseAt, afterTrade, afterClose, afterQuote, taken, stamp, afterFrom, after}
 
 -- a side moved by m
 abbrev pub onSide : (Price → Price) → Side → Side
@@ -38,13 +38,13 @@ cond-map g false x y = refl
 -- ---- one field
 
 -- a field of another instrument does nothing
-other : (i start : ℕ) (s : Indicator) (f : Field) → concerns i f ≡ false → taken i start s f ≡ s
+other : (i : ℕ) (s : Indicator) (f : Field) → concerns i f ≡ false → taken i s f ≡ s
 unfolding taken
-other i start s (Header metal marks) e = refl
-other i start s (PreviousClose instrument price) e = simp e
-other i start s (Trade time instrument price lots) e = simp e
-other i start s (Quote time instrument sides bid offer) e = simp e
-other i start s (End count) e = refl
+other i s (Header metal marks) e = refl
+other i s (PreviousClose instrument price) e = simp e
+other i s (Trade time instrument price lots) e = simp e
+other i s (Quote time instrument sides bid offer) e = simp e
+other i s (End count) e = refl
 
 -- a change that keeps a field's time and instrument
 pub record Keeps (g : Field → Field) : Type 0 where
@@ -69,34 +69,32 @@ repriced-keeps m q = record { time = at-time; instrument = of-instrument }
     of-instrument i (End count) = refl
 
 -- the state goes along with the change of a field
-abbrev pub Along : ℕ → ℕ → (Field → Field) → (Indicator → Indicator) → Type 0
-Along i start g G = (s : Indicator) (f : Field) → taken i start (G s) (g f) ≡ G (taken i start s f)
+abbrev pub Along : ℕ → (Field → Field) → (Indicator → Indicator) → Type 0
+Along i g G = (s : Indicator) (f : Field) → taken i (G s) (g f) ≡ G (taken i s f)
 
 -- it goes along with a change of prices where it goes along with closes, trades and quotes
-module _ (i start : ℕ) (m : Price → Price) (q : ℕ → Price → Price → Sides) (G : Indicator → Indicator)
+module _ (i : ℕ) (m : Price → Price) (q : ℕ → Price → Price → Sides) (G : Indicator → Indicator)
     (close : (s : Indicator) (p : Price) → afterClose (G s) (m p) ≡ G (afterClose s p))
     (trade : (s : Indicator) (p : Price) → afterTrade (G s) (m p) ≡ G (afterTrade s p))
     (quote : (s : Indicator) (n : ℕ) (b o : Price) → afterQuote (G s) (q n b o .sides) (q n b o .bid) (q n b o .offer) ≡ G (afterQuote s n b o)) where
-  pub repriced-along : Along i start (repriced m q) G
+  pub repriced-along : Along i (repriced m q) G
   unfolding taken
   repriced-along s (Header metal marks) = refl
   repriced-along s (PreviousClose instrument price) = rw (close s price) (cond-map G (eqb instrument i) (afterClose s price) s)
   repriced-along s (Trade time instrument price lots) = rw (trade s price) (cond-map G (eqb instrument i) (afterTrade s price) s)
-  repriced-along s (Quote time instrument sides bid offer) =
-      let new = afterQuote s sides bid offer in
-      rw (quote s sides bid offer, cond-map G (leb (bookFrom start) time) new s) (cond-map G (eqb instrument i) (cond (leb (bookFrom start) time) new s) s)
+  repriced-along s (Quote time instrument sides bid offer) = rw (quote s sides bid offer) (cond-map G (eqb instrument i) (afterQuote s sides bid offer) s)
   repriced-along s (End count) = refl
 
 -- ---- a list of fields
 
-along-map : (i start t : ℕ) (g : Field → Field) (G : Indicator → Indicator) → ((f : Field) → stamp (g f) ≡ stamp f) → Along i start g G
-    → (s : Indicator) (fs : List Field) → afterFrom i start t (G s) (map g fs) ≡ G (afterFrom i start t s fs)
+along-map : (i t : ℕ) (g : Field → Field) (G : Indicator → Indicator) → ((f : Field) → stamp (g f) ≡ stamp f) → Along i g G
+    → (s : Indicator) (fs : List Field) → afterFrom i t (G s) (map g fs) ≡ G (afterFrom i t s fs)
 unfolding afterFrom
-along-map i start t g G time step s [] = refl
-along-map i start t g G time step s (f ∷ fs) =
-    ap (λ (x : Indicator). afterFrom i start t x (map g fs))
-    (ap₂ (λ (n : ℕ) (x : Indicator). cond (leb n t) x (G s)) (time f) (step s f) ∙ cond-map G (leb (stamp f) t) (taken i start s f) s)
-    ∙ along-map i start t g G time step (cond (leb (stamp f) t) (taken i start s f) s) fs
+along-map i t g G time step s [] = refl
+along-map i t g G time step s (f ∷ fs) =
+    ap (λ (x : Indicator). afterFrom i t x (map g fs))
+    (ap₂ (λ (n : ℕ) (x : Indicator). cond (leb n t) x (G s)) (time f) (step s f) ∙ cond-map G (leb (stamp f) t) (taken i s f) s)
+    ∙ along-map i t g G time step (cond (leb (stamp f) t) (taken i s f) s) fs
 
 changed-time : (i : ℕ) (g : Field → Field) → Keeps g → (f : Field) → stamp (changed i g f) ≡ stamp f
 changed-time i g keeps f = by-test (concerns i f)
@@ -105,15 +103,15 @@ changed-time i g keeps f = by-test (concerns i f)
     by-test true = keeps .time f
     by-test false = refl
 
-pub after-changed : (i start : ℕ) (g : Field → Field) (G : Indicator → Indicator) → Keeps g → Along i start g G → G empty ≡ empty
-    → (t : ℕ) (fs : List Field) → after i start t (map (changed i g) fs) ≡ G (after i start t fs)
-after-changed i start g G keeps along none t fs =
-    ap (λ (s : Indicator). afterFrom i start t s (map (changed i g) fs)) (sym none)
-    ∙ along-map i start t (changed i g) G (changed-time i g keeps) (λ s f. by-test s f (concerns i f) refl) empty fs
+pub after-changed : (i : ℕ) (g : Field → Field) (G : Indicator → Indicator) → Keeps g → Along i g G → G empty ≡ empty
+    → (t : ℕ) (fs : List Field) → after i t (map (changed i g) fs) ≡ G (after i t fs)
+after-changed i g G keeps along none t fs =
+    ap (λ (s : Indicator). afterFrom i t s (map (changed i g) fs)) (sym none)
+    ∙ along-map i t (changed i g) G (changed-time i g keeps) (λ s f. by-test s f (concerns i f) refl) empty fs
   where
-    by-test : (s : Indicator) (f : Field) (b : Bool) → concerns i f ≡ b → taken i start (G s) (cond b (g f) f) ≡ G (taken i start s f)
+    by-test : (s : Indicator) (f : Field) (b : Bool) → concerns i f ≡ b → taken i (G s) (cond b (g f) f) ≡ G (taken i s f)
     by-test s f true e = along s f
-    by-test s f false e = other i start (G s) f e ∙ ap G (sym (other i start s f e))
+    by-test s f false e = other i (G s) f e ∙ ap G (sym (other i s f e))
 
 -- ---- another instrument
 
@@ -128,11 +126,11 @@ not-both i j (Trade time instrument price lots) d e = one-of i j instrument d e
 not-both i j (Quote time instrument sides bid offer) d e = one-of i j instrument d e
 not-both i j (End count) d e = refl
 
-pub others-stay : (i j start : ℕ) (g : Field → Field) → Keeps g → (j ≡ i → ⊥) → (t : ℕ) (fs : List Field) → after j start t (map (changed i g) fs) ≡ after j start t fs
-others-stay i j start g keeps differs t fs = along-map j start t (changed i g) (λ s. s) (changed-time i g keeps) (λ s f. by-test s f (concerns i f) refl) empty fs
+pub others-stay : (i j : ℕ) (g : Field → Field) → Keeps g → (j ≡ i → ⊥) → (t : ℕ) (fs : List Field) → after j t (map (changed i g) fs) ≡ after j t fs
+others-stay i j g keeps differs t fs = along-map j t (changed i g) (λ s. s) (changed-time i g keeps) (λ s f. by-test s f (concerns i f) refl) empty fs
   where
-    by-test : (s : Indicator) (f : Field) (b : Bool) → concerns i f ≡ b → taken j start s (cond b (g f) f) ≡ taken j start s f
+    by-test : (s : Indicator) (f : Field) (b : Bool) → concerns i f ≡ b → taken j s (cond b (g f) f) ≡ taken j s f
     by-test s f true e =
         let no = not-both i j f differs e in
-        other j start s (g f) (keeps .instrument j f ∙ no) ∙ sym (other j start s f no)
+        other j s (g f) (keeps .instrument j f ∙ no) ∙ sym (other j s f no)
     by-test s f false e = refl

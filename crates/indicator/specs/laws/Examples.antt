@@ -1,18 +1,21 @@
 -- P4, the worked example of RULES 6: 375 for one minute, 400 for two, 375 for one and 350 for one are 380 on average. Here the sum, 300,000 times that.
+-- G1 and G2: quotes that rest from before the window, over a last trade at 375.
 -- Assumes nothing.
 use Prim.Native.Nat.{ℕ, _*_}
 use mathlib.Core.Path.{_≡_, refl, sym, ap, _∙_}
-use mathlib.Core.Bool.{true}
-use mathlib.Core.List.{List, [], _∷_}
+use mathlib.Core.Bool.{true, false}
+use mathlib.Core.List.{List, [], _∷_, _++_}
+use native.Mathlib.Omega.{arith}
 use lib.Dec.{lit≤}
-use lib.IntN.{pos}
+use lib.IntN.{pos, _*ℤ_}
 use Rattle.field.specs.declared.Field.{Field}
 use Rattle.field.specs.declared.Field.the-variants.{Trade, Quote}
+use Rattle.market.specs.Market.{windowLength}
 use Rattle.market.specs.laws.Rows.{window-length}
 use Rattle.indicator.specs.declared.Indicator.{Indicator}
-use Rattle.indicator.specs.Indicator.{empty, bookFrom, taken, afterFrom, sumFrom, centsAt, twapSum, hasReference}
+use Rattle.indicator.specs.Indicator.{empty, taken, afterFrom, sumFrom, centsAt, twapSum, hasReference}
 use Rattle.indicator.specs.laws.Sums.{sum-none}
-use Rattle.indicator.specs.laws.Indicator.{Reached, reached-none, reached-more, reached-on}
+use Rattle.indicator.specs.laws.Indicator.{Reached, reached-none, reached-more, reached-on, allTaken, whole-window}
 
 -- the start of Copper's spread window
 abbrev pub start : ℕ
@@ -43,48 +46,111 @@ day = traded ∷ rest1
 
 -- the state after one field, two, .., five
 abbrev one : Indicator
-one = taken 7 start empty traded
+one = taken 7 empty traded
 
 abbrev two : Indicator
-two = taken 7 start one (quoted 60060000 1 400 0)
+two = taken 7 one (quoted 60060000 1 400 0)
 
 abbrev three : Indicator
-three = taken 7 start two (quoted 60120000 3 400 450)
+three = taken 7 two (quoted 60120000 3 400 450)
 
 abbrev four : Indicator
-four = taken 7 start three (quoted 60180000 2 0 450)
+four = taken 7 three (quoted 60180000 2 0 450)
 
 abbrev five : Indicator
-five = taken 7 start four (quoted 60240000 2 0 350)
+five = taken 7 four (quoted 60240000 2 0 350)
 
 -- which the indicator has from each record's time on
-by-one : Reached 7 start 60000000 day one rest1
-by-one = reached-more 7 start day 0 60000000 empty traded rest1 (lit≤ tt) (lit≤ tt) (reached-none 7 start day)
+by-one : Reached 7 60000000 day one rest1
+by-one = reached-more 7 day 0 60000000 empty traded rest1 (lit≤ tt) (lit≤ tt) (reached-none 7 day)
 
-by-two : Reached 7 start 60060000 day two rest2
-by-two = reached-more 7 start day 60000000 60060000 one (quoted 60060000 1 400 0) rest2 (lit≤ tt) (lit≤ tt) by-one
+by-two : Reached 7 60060000 day two rest2
+by-two = reached-more 7 day 60000000 60060000 one (quoted 60060000 1 400 0) rest2 (lit≤ tt) (lit≤ tt) by-one
 
-by-three : Reached 7 start 60120000 day three rest3
-by-three = reached-more 7 start day 60060000 60120000 two (quoted 60120000 3 400 450) rest3 (lit≤ tt) (lit≤ tt) by-two
+by-three : Reached 7 60120000 day three rest3
+by-three = reached-more 7 day 60060000 60120000 two (quoted 60120000 3 400 450) rest3 (lit≤ tt) (lit≤ tt) by-two
 
-by-four : Reached 7 start 60180000 day four rest4
-by-four = reached-more 7 start day 60120000 60180000 three (quoted 60180000 2 0 450) rest4 (lit≤ tt) (lit≤ tt) by-three
+by-four : Reached 7 60180000 day four rest4
+by-four = reached-more 7 day 60120000 60180000 three (quoted 60180000 2 0 450) rest4 (lit≤ tt) (lit≤ tt) by-three
 
-by-five : Reached 7 start 60240000 day five []
-by-five = reached-more 7 start day 60180000 60240000 four (quoted 60240000 2 0 350) [] (lit≤ tt) (lit≤ tt) by-four
+by-five : Reached 7 60240000 day five []
+by-five = reached-more 7 day 60180000 60240000 four (quoted 60240000 2 0 350) [] (lit≤ tt) (lit≤ tt) by-four
 
 pub p4 : twapSum 7 start day ≡ pos (300000 * 380)
-unfolding taken bookFrom
+unfolding taken
 p4 =
-    ap (sumFrom (centsAt 7 start day) start) window-length
-    ∙ sym (reached-on 7 start day 240000 60000 five [] _ by-five tt
-    (reached-on 7 start day 180000 60000 four rest4 _ by-four (lit≤ tt, tt)
-    (reached-on 7 start day 120000 60000 three rest3 _ by-three (lit≤ tt, (lit≤ tt, tt))
-    (reached-on 7 start day 60000 60000 two rest2 _ by-two (lit≤ tt, (lit≤ tt, (lit≤ tt, tt)))
-    (reached-on 7 start day 0 60000 one rest1 (pos 0) by-one (lit≤ tt, (lit≤ tt, (lit≤ tt, (lit≤ tt, tt))))
-    (sym (sum-none (centsAt 7 start day) start)))))))
+    ap (sumFrom (centsAt 7 day) start) window-length
+    ∙ sym (reached-on 7 day start 240000 60000 five [] _ by-five tt
+    (reached-on 7 day start 180000 60000 four rest4 _ by-four (lit≤ tt, tt)
+    (reached-on 7 day start 120000 60000 three rest3 _ by-three (lit≤ tt, (lit≤ tt, tt))
+    (reached-on 7 day start 60000 60000 two rest2 _ by-two (lit≤ tt, (lit≤ tt, (lit≤ tt, tt)))
+    (reached-on 7 day start 0 60000 one rest1 (pos 0) by-one (lit≤ tt, (lit≤ tt, (lit≤ tt, (lit≤ tt, tt))))
+    (sym (sum-none (centsAt 7 day) start)))))))
 
 -- and there is a reference at the window's first millisecond
 pub p4-reference : hasReference 7 start day ≡ true
 unfolding taken afterFrom
 p4-reference = refl
+
+-- ---- quotes that rest
+
+-- the fields up to the window's first millisecond, those behind the window, and the indicator throughout it, in cents
+pub record Resting : Type 0 where
+  pub instrument : ℕ
+  pub start : ℕ
+  pub early : List Field
+  pub later : List Field
+  pub cents : ℕ
+
+abbrev pub Holds : Resting → Type 0
+Holds r = twapSum (r .instrument) (r .start) (r .early ++ r .later) ≡ pos windowLength *ℤ pos (r .cents)
+
+abbrev pub AllHold : List Resting → Type 0
+AllHold [] = Unit {0}
+AllHold (r ∷ rs) = Holds r × AllHold rs
+
+-- of M1-M2 in Copper's spread window
+abbrev spread : List Field → List Field → ℕ → Resting
+spread early later cents = record { instrument = 7; start = start; early = early; later = later; cents = cents }
+
+-- a bid at noon
+abbrev noon : Field
+noon = quoted 43200000 1 400 0
+
+-- 3M's trade, and its bid in the spread window
+abbrev anchored : List Field
+anchored = Trade 59000000 0 (record { cents = pos 900000 }) 1 ∷ Quote 60100000 0 1 (record { cents = pos 900100 }) (record { cents = pos 0 }) ∷ []
+
+abbrev pub resting : List Resting
+resting =
+    spread (noon ∷ traded ∷ []) [] 400 ∷  -- a bid that stands since noon
+    spread (noon ∷ quoted 50000000 1 390 0 ∷ traded ∷ []) [] 390 ∷  -- the latest of two
+    spread (noon ∷ traded ∷ quoted 59999999 0 0 0 ∷ []) [] 375 ∷  -- the latest has no side: the book is empty
+    spread (noon ∷ traded ∷ quoted 60000000 1 390 0 ∷ []) [] 390 ∷  -- one stamped at the start is in place at the first millisecond
+    spread (traded ∷ []) (quoted 60300000 1 400 0 ∷ []) 375 ∷  -- one behind the window does not count
+    record { instrument = 0; start = 60300000; early = anchored; later = []; cents = 900100 } ∷  -- 3M's bid rests into the anchor window
+    []
+
+pub resting-hold : AllHold resting
+unfolding taken allTaken
+resting-hold = (
+  whole-window 7 start (noon ∷ traded ∷ []) [] (lit≤ tt, (lit≤ tt, tt)) tt,
+  (
+    whole-window 7 start (noon ∷ quoted 50000000 1 390 0 ∷ traded ∷ []) [] (lit≤ tt, (lit≤ tt, (lit≤ tt, tt))) tt,
+    (
+      whole-window 7 start (noon ∷ traded ∷ quoted 59999999 0 0 0 ∷ []) [] (lit≤ tt, (lit≤ tt, (lit≤ tt, tt))) tt,
+      (
+        whole-window 7 start (noon ∷ traded ∷ quoted 60000000 1 390 0 ∷ []) [] (lit≤ tt, (lit≤ tt, (lit≤ tt, tt))) tt,
+        (
+          whole-window 7 start (traded ∷ []) (quoted 60300000 1 400 0 ∷ []) (lit≤ tt, tt) (omega (arith, window-length), tt),
+          (whole-window 0 60300000 anchored [] (lit≤ tt, (lit≤ tt, tt)) tt, tt)
+        )
+      )
+    )
+  )
+)
+
+-- a resting bid is no reference
+pub resting-none : hasReference 7 start (noon ∷ []) ≡ false
+unfolding taken afterFrom
+resting-none = refl

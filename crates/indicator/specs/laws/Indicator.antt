@@ -4,7 +4,9 @@
 --     Reached          a pass that has taken the fields that count at t stands in the state s, with the rest to come
 --     reached-..       it begins, goes on by one field, and has the indicator's state and its sum until the next field
 --     parted           the fields that count at t stand before those that come later, and the state at t is the one after them
+--     whole-window     where all fields come by the window's start or behind the window, one indicator throughout
 --     reference-told   13's words: a previous close, or a trade of the instrument by then
+--     book-latest      the book's words: the latest quote record by then, and empty where there is none
 -- Assumes nothing.
 use Prim.Native.Nat.{ℕ, suc, _+_, _≤_, _<_}
 use mathlib.Core.Path.{_≡_, refl, sym, ap, subst, _∙_}
@@ -19,10 +21,12 @@ use lib.IntN.{ℤ, pos, _+ℤ_, _*ℤ_}
 use Rattle.field.specs.declared.Price.{Price}
 use Rattle.field.specs.declared.Field.{Field}
 use Rattle.field.specs.declared.Field.the-variants.{Header, PreviousClose, Trade, Quote, End}
+use Rattle.field.specs.Judging.{hasBid, hasOffer}
+use Rattle.market.specs.Market.{windowLength}
 use Rattle.indicator.specs.declared.Side.{Side}
 use Rattle.indicator.specs.declared.Side.the-variants.{Absent, At}
 use Rattle.indicator.specs.declared.Indicator.{Indicator}
-use Rattle.indicator.specs.Indicator.{empty, present, centsOf, afterTrade, afterClose, afterQuote, elseAt, valueOf, bookFrom, taken, stamp, afterFrom, after, centsAt, sumFrom, hasReference}
+use Rattle.indicator.specs.Indicator.{sideOf, empty, present, centsOf, afterTrade, afterClose, afterQuote, elseAt, valueOf, taken, stamp, afterFrom, after, centsAt, sumFrom, twapSum, hasReference}
 use Rattle.indicator.specs.laws.Sums.{sum-append, sum-const}
 
 -- previous closes before records, whose times never fall, from t on
@@ -43,29 +47,29 @@ rising-low t u (Trade time instrument price lots ∷ fs) l h = (le-trans l (h .0
 rising-low t u (Quote time instrument sides bid offer ∷ fs) l h = (le-trans l (h .0), h .1)
 rising-low t u (End count ∷ fs) l h = rising-low t u fs l h
 
-module _ (i start t : ℕ) where
+module _ (i t : ℕ) where
   -- the fields of one list, then those of another
-  pub after-append : (s : Indicator) (fs gs : List Field) → afterFrom i start t s (fs ++ gs) ≡ afterFrom i start t (afterFrom i start t s fs) gs
+  pub after-append : (s : Indicator) (fs gs : List Field) → afterFrom i t s (fs ++ gs) ≡ afterFrom i t (afterFrom i t s fs) gs
   unfolding afterFrom
   after-append s [] gs = refl
-  after-append s (f ∷ fs) gs = after-append (cond (leb (stamp f) t) (taken i start s f) s) fs gs
+  after-append s (f ∷ fs) gs = after-append (cond (leb (stamp f) t) (taken i s f) s) fs gs
 
   -- a field that counts is taken, and one that comes later isn't
-  pub due : (s : Indicator) (f : Field) (fs : List Field) → stamp f ≤ t → afterFrom i start t s (f ∷ fs) ≡ afterFrom i start t (taken i start s f) fs
+  pub due : (s : Indicator) (f : Field) (fs : List Field) → stamp f ≤ t → afterFrom i t s (f ∷ fs) ≡ afterFrom i t (taken i s f) fs
   unfolding afterFrom
-  due s f fs h = ap (λ (b : Bool). afterFrom i start t (cond b (taken i start s f) s) fs) (le-leb (stamp f) t h)
+  due s f fs h = ap (λ (b : Bool). afterFrom i t (cond b (taken i s f) s) fs) (le-leb (stamp f) t h)
 
-  pub not-due : (s : Indicator) (f : Field) (fs : List Field) → t < stamp f → afterFrom i start t s (f ∷ fs) ≡ afterFrom i start t s fs
+  pub not-due : (s : Indicator) (f : Field) (fs : List Field) → t < stamp f → afterFrom i t s (f ∷ fs) ≡ afterFrom i t s fs
   unfolding afterFrom
-  not-due s f fs h = ap (λ (b : Bool). afterFrom i start t (cond b (taken i start s f) s) fs) (lt-leb (stamp f) t h)
+  not-due s f fs h = ap (λ (b : Bool). afterFrom i t (cond b (taken i s f) s) fs) (lt-leb (stamp f) t h)
 
   -- one field more, behind the others
-  pub one-more : (fs : List Field) (f : Field) → stamp f ≤ t → after i start t (fs ++ (f ∷ [])) ≡ taken i start (after i start t fs) f
+  pub one-more : (fs : List Field) (f : Field) → stamp f ≤ t → after i t (fs ++ (f ∷ [])) ≡ taken i (after i t fs) f
   unfolding afterFrom
-  one-more fs f h = after-append empty fs (f ∷ []) ∙ due (after i start t fs) f [] h
+  one-more fs f h = after-append empty fs (f ∷ []) ∙ due (after i t fs) f [] h
 
   -- fields that all come later change nothing
-  pub late : (m : ℕ) (s : Indicator) (fs : List Field) → t < m → Rising m fs → afterFrom i start t s fs ≡ s
+  pub late : (m : ℕ) (s : Indicator) (fs : List Field) → t < m → Rising m fs → afterFrom i t s fs ≡ s
   unfolding afterFrom taken
   late m s [] l h = refl
   late m s (Header metal marks ∷ fs) l h = absurd (omega (arith, h .0))
@@ -77,34 +81,34 @@ module _ (i start t : ℕ) where
 -- ---- a pass over the fields
 
 -- from the millisecond t on the state s and the fields rest say what all the fields say
-pub record Reached (i start t : ℕ) (fs : List Field) (s : Indicator) (rest : List Field) : Type 0 where
-  pub same : (u : ℕ) → t ≤ u → after i start u fs ≡ afterFrom i start u s rest
+pub record Reached (i t : ℕ) (fs : List Field) (s : Indicator) (rest : List Field) : Type 0 where
+  pub same : (u : ℕ) → t ≤ u → after i u fs ≡ afterFrom i u s rest
 
-module _ (i start : ℕ) (fs : List Field) where
+module _ (i : ℕ) (fs : List Field) where
   -- no field yet
-  pub reached-none : Reached i start 0 fs empty fs
+  pub reached-none : Reached i 0 fs empty fs
   reached-none = record { same = λ u l. refl }
 
   -- a later millisecond
-  pub reached-later : (t u : ℕ) (s : Indicator) (rest : List Field) → t ≤ u → Reached i start t fs s rest → Reached i start u fs s rest
+  pub reached-later : (t u : ℕ) (s : Indicator) (rest : List Field) → t ≤ u → Reached i t fs s rest → Reached i u fs s rest
   reached-later t u s rest l r = record { same = λ v h. r .same v (le-trans l h) }
 
   -- one field more, which counts at u
-  pub reached-more : (t u : ℕ) (s : Indicator) (f : Field) (rest : List Field) → t ≤ u → stamp f ≤ u → Reached i start t fs s (f ∷ rest) → Reached i start u fs (taken i start s f) rest
-  reached-more t u s f rest l k r = record { same = λ v h. r .same v (le-trans l h) ∙ due i start v s f rest (le-trans k h) }
+  pub reached-more : (t u : ℕ) (s : Indicator) (f : Field) (rest : List Field) → t ≤ u → stamp f ≤ u → Reached i t fs s (f ∷ rest) → Reached i u fs (taken i s f) rest
+  reached-more t u s f rest l k r = record { same = λ v h. r .same v (le-trans l h) ∙ due i v s f rest (le-trans k h) }
 
   -- until the next field the state is the indicator's
-  pub reached-state : (t u m : ℕ) (s : Indicator) (rest : List Field) → Reached i start t fs s rest → t ≤ u → u < m → Rising m rest → after i start u fs ≡ s
-  reached-state t u m s rest r l h o = r .same u l ∙ late i start u m s rest h o
+  pub reached-state : (t u m : ℕ) (s : Indicator) (rest : List Field) → Reached i t fs s rest → t ≤ u → u < m → Rising m rest → after i u fs ≡ s
+  reached-state t u m s rest r l h o = r .same u l ∙ late i u m s rest h o
 
   -- n milliseconds from t on in which no field falls
-  pub reached-sum : (t n : ℕ) (s : Indicator) (rest : List Field) → Reached i start t fs s rest → Rising (t + n) rest → sumFrom (centsAt i start fs) t n ≡ pos n *ℤ centsOf (valueOf s)
-  reached-sum t n s rest r o = sum-const (centsAt i start fs) t n (centsOf (valueOf s)) (λ j l h. ap (λ (x : Indicator). centsOf (valueOf x)) (reached-state t j (t + n) s rest r l h o))
+  pub reached-sum : (t n : ℕ) (s : Indicator) (rest : List Field) → Reached i t fs s rest → Rising (t + n) rest → sumFrom (centsAt i fs) t n ≡ pos n *ℤ centsOf (valueOf s)
+  reached-sum t n s rest r o = sum-const (centsAt i fs) t n (centsOf (valueOf s)) (λ j l h. ap (λ (x : Indicator). centsOf (valueOf x)) (reached-state t j (t + n) s rest r l h o))
 
   -- the same behind the k milliseconds that were summed before
-  pub reached-on : (k n : ℕ) (s : Indicator) (rest : List Field) (sum : ℤ) → Reached i start (start + k) fs s rest → Rising (start + k + n) rest
-      → sum ≡ sumFrom (centsAt i start fs) start k → sum +ℤ pos n *ℤ centsOf (valueOf s) ≡ sumFrom (centsAt i start fs) start (k + n)
-  reached-on k n s rest sum r o e = simp (e, sum-append (centsAt i start fs) start k n, reached-sum (start + k) n s rest r o)
+  pub reached-on : (start k n : ℕ) (s : Indicator) (rest : List Field) (sum : ℤ) → Reached i (start + k) fs s rest → Rising (start + k + n) rest
+      → sum ≡ sumFrom (centsAt i fs) start k → sum +ℤ pos n *ℤ centsOf (valueOf s) ≡ sumFrom (centsAt i fs) start (k + n)
+  reached-on start k n s rest sum r o e = simp (e, sum-append (centsAt i fs) start k n, reached-sum (start + k) n s rest r o)
 
 -- ---- fields with rising times part at t
 
@@ -114,9 +118,9 @@ Counted t [] = Unit {0}
 Counted t (f ∷ fs) = (stamp f ≤ t) × Counted t fs
 
 -- every field of the list taken
-unfoldable pub allTaken : ℕ → ℕ → Indicator → List Field → Indicator
-allTaken i start s [] = s
-allTaken i start s (f ∷ fs) = allTaken i start (taken i start s f) fs
+unfoldable pub allTaken : ℕ → Indicator → List Field → Indicator
+allTaken i s [] = s
+allTaken i s (f ∷ fs) = allTaken i (taken i s f) fs
 
 -- those that count at t, then those that come later
 pub record Parted (t : ℕ) (fs : List Field) : Type 0 where
@@ -150,18 +154,31 @@ parted t u (Trade time instrument price lots ∷ fs) h = by-time t time (Trade t
 parted t u (Quote time instrument sides bid offer ∷ fs) h = by-time t time (Quote time instrument sides bid offer) fs refl (λ l. parted t time fs (h .1)) (λ l. (l, h .1)) (decLt t time)
 parted t u (End count ∷ fs) h = first-early t (End count) fs (omega arith) (parted t u fs h)
 
-counted-all : (i start t : ℕ) (s : Indicator) (fs : List Field) → Counted t fs → afterFrom i start t s fs ≡ allTaken i start s fs
+counted-all : (i t : ℕ) (s : Indicator) (fs : List Field) → Counted t fs → afterFrom i t s fs ≡ allTaken i s fs
 unfolding allTaken afterFrom
-counted-all i start t s [] h = refl
-counted-all i start t s (f ∷ fs) h = due i start t s f fs (h .0) ∙ counted-all i start t (taken i start s f) fs (h .1)
+counted-all i t s [] h = refl
+counted-all i t s (f ∷ fs) h = due i t s f fs (h .0) ∙ counted-all i t (taken i s f) fs (h .1)
 
 -- the state at t is the one after the fields of the first part, in sheet order
-pub parted-state : (i start t : ℕ) (fs : List Field) (p : Parted t fs) → after i start t fs ≡ allTaken i start empty (p .early)
-parted-state i start t fs p =
-    ap (after i start t) (p .whole)
-    ∙ after-append i start t empty (p .early) (p .later)
-    ∙ late i start t (suc t) (after i start t (p .early)) (p .later) (le-refl (suc t)) (p .rising)
-    ∙ counted-all i start t empty (p .early) (p .counted)
+pub parted-state : (i t : ℕ) (fs : List Field) (p : Parted t fs) → after i t fs ≡ allTaken i empty (p .early)
+parted-state i t fs p =
+    ap (after i t) (p .whole)
+    ∙ after-append i t empty (p .early) (p .later)
+    ∙ late i t (suc t) (after i t (p .early)) (p .later) (le-refl (suc t)) (p .rising)
+    ∙ counted-all i t empty (p .early) (p .counted)
+
+-- what counts at t counts later
+counted-later : (t u : ℕ) (fs : List Field) → t ≤ u → Counted t fs → Counted u fs
+counted-later t u [] l h = tt
+counted-later t u (f ∷ fs) l h = (le-trans (h .0) l, counted-later t u fs l (h .1))
+
+-- fields that count from the window's start on, and fields that come behind the window
+pub whole-window : (i start : ℕ) (early later : List Field) → Counted start early → Rising (start + windowLength) later
+    → twapSum i start (early ++ later) ≡ pos windowLength *ℤ centsOf (valueOf (allTaken i empty early))
+whole-window i start early later c r =
+    sum-const (centsAt i (early ++ later)) start windowLength (centsOf (valueOf (allTaken i empty early))) (λ t l h.
+      ap (λ (s : Indicator). centsOf (valueOf s))
+      (after-append i t empty early later ∙ late i t (start + windowLength) (after i t early) later h r ∙ counted-all i t empty early (counted-later start t early l c)))
 
 -- ---- the reference
 
@@ -196,31 +213,30 @@ trade-told true false rest s price = refl
 trade-told false true rest s price = refl
 trade-told false false rest s price = refl
 
-quote-told : (counts mine fills : Bool) (s : Indicator) (sides : ℕ) (bid offer : Price) → cond counts (cond mine (cond fills (afterQuote s sides bid offer) s) s) s .reference ≡ s .reference
-quote-told false mine fills s sides bid offer = refl
-quote-told true false fills s sides bid offer = refl
-quote-told true true false s sides bid offer = refl
-quote-told true true true s sides bid offer = refl
+quote-told : (counts mine : Bool) (s : Indicator) (sides : ℕ) (bid offer : Price) → cond counts (cond mine (afterQuote s sides bid offer) s) s .reference ≡ s .reference
+quote-told false mine s sides bid offer = refl
+quote-told true false s sides bid offer = refl
+quote-told true true s sides bid offer = refl
 
-module _ (i start t : ℕ) where
-  reference-from : (s : Indicator) (fs : List Field) → present (afterFrom i start t s fs .reference) ≡ cond (present (s .reference)) true (toldBy i t fs)
+module _ (i t : ℕ) where
+  reference-from : (s : Indicator) (fs : List Field) → present (afterFrom i t s fs .reference) ≡ cond (present (s .reference)) true (toldBy i t fs)
   unfolding afterFrom taken toldBy
   reference-from s [] = or-false (present (s .reference))
-  reference-from s (Header metal marks ∷ fs) = ap (λ (x : Indicator). present (x .reference)) (due i start t s (Header metal marks) fs (omega arith)) ∙ reference-from s fs
+  reference-from s (Header metal marks ∷ fs) = ap (λ (x : Indicator). present (x .reference)) (due i t s (Header metal marks) fs (omega arith)) ∙ reference-from s fs
   reference-from s (PreviousClose instrument price ∷ fs) =
-      ap (λ (x : Indicator). present (x .reference)) (due i start t s (PreviousClose instrument price) fs (omega arith))
+      ap (λ (x : Indicator). present (x .reference)) (due i t s (PreviousClose instrument price) fs (omega arith))
       ∙ reference-from (cond (eqb instrument i) (afterClose s price) s) fs
       ∙ close-told (eqb instrument i) (toldBy i t fs) s price
   reference-from s (Trade time instrument price lots ∷ fs) =
       reference-from (cond (leb time t) (cond (eqb instrument i) (afterTrade s price) s) s) fs
       ∙ trade-told (leb time t) (eqb instrument i) (toldBy i t fs) s price
   reference-from s (Quote time instrument sides bid offer ∷ fs) =
-      reference-from (cond (leb time t) (cond (eqb instrument i) (cond (leb (bookFrom start) time) (afterQuote s sides bid offer) s) s) s) fs
-      ∙ ap (λ (x : Side). cond (present x) true (toldBy i t fs)) (quote-told (leb time t) (eqb instrument i) (leb (bookFrom start) time) s sides bid offer)
-  reference-from s (End count ∷ fs) = ap (λ (x : Indicator). present (x .reference)) (due i start t s (End count) fs (omega arith)) ∙ reference-from s fs
+      reference-from (cond (leb time t) (cond (eqb instrument i) (afterQuote s sides bid offer) s) s) fs
+      ∙ ap (λ (x : Side). cond (present x) true (toldBy i t fs)) (quote-told (leb time t) (eqb instrument i) s sides bid offer)
+  reference-from s (End count ∷ fs) = ap (λ (x : Indicator). present (x .reference)) (due i t s (End count) fs (omega arith)) ∙ reference-from s fs
 
   -- there is a reference exactly where there was a previous close, or a trade by then
-  pub reference-told : (fs : List Field) → present (after i start t fs .reference) ≡ toldBy i t fs
+  pub reference-told : (fs : List Field) → present (after i t fs .reference) ≡ toldBy i t fs
   reference-told fs = reference-from empty fs
 
 pick-mono : (which a b c d : Bool) → (T a → T c) → (T b → T d) → T (cond which a b) → T (cond which c d)
@@ -245,5 +261,70 @@ told-later i t u (Quote time instrument sides bid offer ∷ fs) l h = told-later
 told-later i t u (End count ∷ fs) l h = told-later i t u fs l h
 
 -- a reference at the window's first millisecond is there at each later one
-pub reference-stays : (i start t : ℕ) (fs : List Field) → start ≤ t → T (hasReference i start fs) → T (present (after i start t fs .reference))
-reference-stays i start t fs l h = subst T (sym (reference-told i start t fs)) (told-later i start t fs l (subst T (reference-told i start start fs) h))
+pub reference-stays : (i start t : ℕ) (fs : List Field) → start ≤ t → T (hasReference i start fs) → T (present (after i t fs .reference))
+reference-stays i start t fs l h = subst T (sym (reference-told i t fs)) (told-later i start t fs l (subst T (reference-told i start fs) h))
+
+-- ---- the book
+
+-- a quote record by its sides, or none
+pub data Latest : Type 0 where
+  none : Latest
+  quoted : ℕ → Price → Price → Latest
+
+-- the second where it is there, else the first
+abbrev laterOf : Latest → Latest → Latest
+laterOf q none = q
+laterOf q (quoted sides bid offer) = quoted sides bid offer
+
+-- the latest quote record of instrument i that is stamped at or before t
+unfoldable pub latestQuote : ℕ → ℕ → List Field → Latest
+latestQuote i t [] = none
+latestQuote i t (Header metal marks ∷ fs) = latestQuote i t fs
+latestQuote i t (PreviousClose instrument price ∷ fs) = latestQuote i t fs
+latestQuote i t (Trade time instrument price lots ∷ fs) = latestQuote i t fs
+latestQuote i t (Quote time instrument sides bid offer ∷ fs) = laterOf (cond (eqb instrument i) (cond (leb time t) (quoted sides bid offer) none) none) (latestQuote i t fs)
+latestQuote i t (End count ∷ fs) = latestQuote i t fs
+
+-- the two sides
+pub record Book : Type 0 where
+  pub bid : Side
+  pub offer : Side
+
+abbrev pub bookOf : Indicator → Book
+bookOf s = record { bid = s .bid; offer = s .offer }
+
+-- the sides that a quote record has, both absent where it has none; where there is no record, those before
+abbrev pub bookBy : Book → Latest → Book
+bookBy before none = before
+bookBy before (quoted sides bid offer) = record { bid = sideOf (hasBid sides) bid; offer = sideOf (hasOffer sides) offer }
+
+book-stays : (counts mine : Bool) (new s : Indicator) → bookOf new ≡ bookOf s → bookOf (cond counts (cond mine new s) s) ≡ bookOf s
+book-stays false mine new s e = refl
+book-stays true false new s e = refl
+book-stays true true new s e = e
+
+book-quoted : (counts mine : Bool) (s : Indicator) (sides : ℕ) (bid offer : Price) (rest : Latest)
+    → bookBy (bookOf (cond counts (cond mine (afterQuote s sides bid offer) s) s)) rest ≡ bookBy (bookOf s) (laterOf (cond mine (cond counts (quoted sides bid offer) none) none) rest)
+book-quoted counts mine s sides bid offer (quoted n b o) = refl
+book-quoted true true s sides bid offer none = refl
+book-quoted true false s sides bid offer none = refl
+book-quoted false true s sides bid offer none = refl
+book-quoted false false s sides bid offer none = refl
+
+module _ (i t : ℕ) where
+  book-from : (s : Indicator) (fs : List Field) → bookOf (afterFrom i t s fs) ≡ bookBy (bookOf s) (latestQuote i t fs)
+  unfolding afterFrom taken latestQuote
+  book-from s [] = refl
+  book-from s (Header metal marks ∷ fs) = ap bookOf (due i t s (Header metal marks) fs (omega arith)) ∙ book-from s fs
+  book-from s (PreviousClose instrument price ∷ fs) =
+      let b = book-stays (leb 0 t) (eqb instrument i) (afterClose s price) s refl in
+      book-from _ fs ∙ ap (λ (before : Book). bookBy before (latestQuote i t fs)) b
+  book-from s (Trade time instrument price lots ∷ fs) =
+      let b = book-stays (leb time t) (eqb instrument i) (afterTrade s price) s refl in
+      book-from _ fs ∙ ap (λ (before : Book). bookBy before (latestQuote i t fs)) b
+  book-from s (Quote time instrument sides bid offer ∷ fs) = book-from _ fs ∙ book-quoted (leb time t) (eqb instrument i) s sides bid offer (latestQuote i t fs)
+  book-from s (End count ∷ fs) = ap bookOf (due i t s (End count) fs (omega arith)) ∙ book-from s fs
+
+  -- the book is the latest quote record's, whatever its time of day, and empty where there is none
+  pub book-latest : (fs : List Field) → bookOf (after i t fs) ≡ bookBy (bookOf empty) (latestQuote i t fs)
+  book-latest fs = book-from empty fs

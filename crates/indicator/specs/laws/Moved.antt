@@ -21,7 +21,7 @@ use Rattle.market.specs.Market.{windowLength}
 use Rattle.indicator.specs.declared.Side.{Side}
 use Rattle.indicator.specs.declared.Side.the-variants.{Absent, At}
 use Rattle.indicator.specs.declared.Indicator.{Indicator}
-use Rattle.indicator.specs.Indicator.{sideOf, present, centsOf, empty, afterTrade, afterClose, afterQuote, below, belowOffer, insideBook, valueBy, valueOf, bookFrom, taken, afterFrom, after, centsAt, twapSum, hasReference}
+use Rattle.indicator.specs.Indicator.{sideOf, present, centsOf, empty, afterTrade, afterClose, afterQuote, below, belowOffer, insideBook, valueBy, valueOf, taken, afterFrom, after, centsAt, twapSum, hasReference}
 use Rattle.indicator.specs.laws.Sums.{sum-cong, sum-shift, sum-neg}
 use Rattle.indicator.specs.laws.Indicator.{reference-stays}
 use Rattle.field.specs.Repriced.{changed, shiftPrice, shiftSides, shiftField, turnPrice, turnSides, turnField}
@@ -84,23 +84,23 @@ module _ (δ : ℤ) where
   shift-value Absent b o h = absurd h
   shift-value (At p) b o h = ap (λ (q : Price). q .cents) (shift-book p b o)
 
+pub shifted-state : (i : ℕ) (δ : ℤ) (fs : List Field) (t : ℕ) → after i t (map (changed i (shiftField δ)) fs) ≡ shiftState δ (after i t fs)
+shifted-state i δ fs t =
+    after-changed i (shiftField δ) (shiftState δ) (repriced-keeps (shiftPrice δ) (shiftSides δ))
+    (repriced-along i (shiftPrice δ) (shiftSides δ) (shiftState δ) (λ s p. simp (on-else (shiftPrice δ) (s .reference) p)) (λ s p. refl) (λ s n b o. simp (shift-side δ (hasBid n) b, shift-side δ (hasOffer n) o)))
+    refl t fs
+
 module _ (i start : ℕ) (δ : ℤ) (fs : List Field) where
-  pub shifted-state : (t : ℕ) → after i start t (map (changed i (shiftField δ)) fs) ≡ shiftState δ (after i start t fs)
-  shifted-state t =
-      after-changed i start (shiftField δ) (shiftState δ) (repriced-keeps (shiftPrice δ) (shiftSides δ))
-      (repriced-along i start (shiftPrice δ) (shiftSides δ) (shiftState δ) (λ s p. simp (on-else (shiftPrice δ) (s .reference) p)) (λ s p. refl) (λ s n b o. simp (shift-side δ (hasBid n) b, shift-side δ (hasOffer n) o)))
-      refl t fs
-
   pub shifted-reference : hasReference i start (map (changed i (shiftField δ)) fs) ≡ hasReference i start fs
-  shifted-reference = ap (λ (s : Indicator). present (s .reference)) (shifted-state start) ∙ on-present (shiftPrice δ) (after i start start fs .reference)
+  shifted-reference = ap (λ (s : Indicator). present (s .reference)) (shifted-state i δ fs start) ∙ on-present (shiftPrice δ) (after i start fs .reference)
 
-  pub shifted-at : (t : ℕ) → start ≤ t → T (hasReference i start fs) → centsAt i start (map (changed i (shiftField δ)) fs) t ≡ centsAt i start fs t +ℤ δ
+  pub shifted-at : (t : ℕ) → start ≤ t → T (hasReference i start fs) → centsAt i (map (changed i (shiftField δ)) fs) t ≡ centsAt i fs t +ℤ δ
   shifted-at t l h =
-      ap (λ (s : Indicator). centsOf (valueOf s)) (shifted-state t)
-      ∙ let s = after i start t fs in shift-value δ (s .reference) (s .bid) (s .offer) (reference-stays i start t fs l h)
+      ap (λ (s : Indicator). centsOf (valueOf s)) (shifted-state i δ fs t)
+      ∙ let s = after i t fs in shift-value δ (s .reference) (s .bid) (s .offer) (reference-stays i start t fs l h)
 
   pub shifted : T (hasReference i start fs) → twapSum i start (map (changed i (shiftField δ)) fs) ≡ twapSum i start fs +ℤ pos windowLength *ℤ δ
-  shifted h = sum-cong _ _ start windowLength (λ j l b. shifted-at j l h) ∙ sum-shift (centsAt i start fs) δ start windowLength
+  shifted h = sum-cong _ _ start windowLength (λ j l b. shifted-at j l h) ∙ sum-shift (centsAt i fs) δ start windowLength
 
 -- ---- every price negated, and the sides exchanged
 
@@ -172,8 +172,8 @@ fair-choice : (t : Bool) (x y : Indicator) → Uncrossed (x .bid) (x .offer) →
 fair-choice true x y h k = h
 fair-choice false x y h k = k
 
-module _ (i start t : ℕ) where
-  fair-from : (s : Indicator) (fs : List Field) → Fair fs → Uncrossed (s .bid) (s .offer) → Uncrossed (afterFrom i start t s fs .bid) (afterFrom i start t s fs .offer)
+module _ (i t : ℕ) where
+  fair-from : (s : Indicator) (fs : List Field) → Fair fs → Uncrossed (s .bid) (s .offer) → Uncrossed (afterFrom i t s fs .bid) (afterFrom i t s fs .offer)
   unfolding afterFrom taken
   fair-from s [] f h = h
   fair-from s (Header metal marks ∷ fs) f h = fair-from _ fs f (fair-choice (leb 0 t) s s h h)
@@ -185,30 +185,26 @@ module _ (i start t : ℕ) where
       fair-from _ fs f (fair-choice (leb time t) (cond (eqb instrument i) new s) s (fair-choice (eqb instrument i) new s h h) h)
   fair-from s (Quote time instrument sides bid offer ∷ fs) f h =
       let new = afterQuote s sides bid offer in
-      let filled = cond (leb (bookFrom start) time) new s in
-      fair-from _ fs (f .1)
-      (fair-choice (leb time t) (cond (eqb instrument i) filled s) s
-      (fair-choice (eqb instrument i) filled s
-      (fair-choice (leb (bookFrom start) time) new s (fair-sides sides bid offer (f .0)) h) h) h)
+      fair-from _ fs (f .1) (fair-choice (leb time t) (cond (eqb instrument i) new s) s (fair-choice (eqb instrument i) new s (fair-sides sides bid offer (f .0)) h) h)
   fair-from s (End count ∷ fs) f h = fair-from _ fs f (fair-choice (leb 0 t) s s h h)
 
-  pub fair-book : (fs : List Field) → Fair fs → Uncrossed (after i start t fs .bid) (after i start t fs .offer)
+  pub fair-book : (fs : List Field) → Fair fs → Uncrossed (after i t fs .bid) (after i t fs .offer)
   fair-book fs f = fair-from empty fs f tt
 
-module _ (i start : ℕ) (fs : List Field) where
-  pub turned-state : (t : ℕ) → after i start t (map (changed i turnField) fs) ≡ turnState (after i start t fs)
+module _ (i : ℕ) (fs : List Field) where
+  pub turned-state : (t : ℕ) → after i t (map (changed i turnField) fs) ≡ turnState (after i t fs)
   turned-state t =
-      after-changed i start turnField turnState (repriced-keeps turnPrice turnSides)
-      (repriced-along i start turnPrice turnSides turnState (λ s p. simp (on-else turnPrice (s .reference) p)) (λ s p. refl) turn-quote)
+      after-changed i turnField turnState (repriced-keeps turnPrice turnSides)
+      (repriced-along i turnPrice turnSides turnState (λ s p. simp (on-else turnPrice (s .reference) p)) (λ s p. refl) turn-quote)
       refl t fs
 
-  pub turned-reference : hasReference i start (map (changed i turnField) fs) ≡ hasReference i start fs
-  turned-reference = ap (λ (s : Indicator). present (s .reference)) (turned-state start) ∙ on-present turnPrice (after i start start fs .reference)
+  pub turned-reference : (start : ℕ) → hasReference i start (map (changed i turnField) fs) ≡ hasReference i start fs
+  turned-reference start = ap (λ (s : Indicator). present (s .reference)) (turned-state start) ∙ on-present turnPrice (after i start fs .reference)
 
-  pub turned-at : (t : ℕ) → Fair fs → centsAt i start (map (changed i turnField) fs) t ≡ negℤ (centsAt i start fs t)
+  pub turned-at : (t : ℕ) → Fair fs → centsAt i (map (changed i turnField) fs) t ≡ negℤ (centsAt i fs t)
   turned-at t f =
       ap (λ (s : Indicator). centsOf (valueOf s)) (turned-state t)
-      ∙ let s = after i start t fs in turn-value (s .reference) (s .bid) (s .offer) (fair-book i start t fs f)
+      ∙ let s = after i t fs in turn-value (s .reference) (s .bid) (s .offer) (fair-book i t fs f)
 
-  pub turned : Fair fs → twapSum i start (map (changed i turnField) fs) ≡ negℤ (twapSum i start fs)
-  turned f = sum-cong _ _ start windowLength (λ j l b. turned-at j f) ∙ sum-neg (centsAt i start fs) start windowLength
+  pub turned : (start : ℕ) → Fair fs → twapSum i start (map (changed i turnField) fs) ≡ negℤ (twapSum i start fs)
+  turned start f = sum-cong _ _ start windowLength (λ j l b. turned-at j f) ∙ sum-neg (centsAt i fs) start windowLength

@@ -99,19 +99,19 @@ unfolding tradesIn tradeIn
 trades-header metal i m n k fs = refl
 
 -- indicators whose states agree at every millisecond
-span-by : (i j start : ℕ) (fs gs : List Field) → ((t : ℕ) → after i start t fs ≡ after j start t gs) → spanOf i start fs ≡ spanOf j start gs
+span-by : (i j start : ℕ) (fs gs : List Field) → ((t : ℕ) → after i t fs ≡ after j t gs) → spanOf i start fs ≡ spanOf j start gs
 unfolding spanOf
 span-by i j start fs gs e =
     ap₂ (λ (b : Bool) (z : ℤ). cond b (sum z) missing)
     (ap (λ (s : Indicator). present (s .reference)) (e start))
-    (sum-cong (centsAt i start fs) (centsAt j start gs) start windowLength (λ t l h. ap (λ (s : Indicator). centsOf (valueOf s)) (e t)))
+    (sum-cong (centsAt i fs) (centsAt j gs) start windowLength (λ t l h. ap (λ (s : Indicator). centsOf (valueOf s)) (e t)))
 
 pub span-header : (i start m n k : ℕ) (fs : List Field) → spanOf i start (Header m n ∷ fs) ≡ spanOf i start (Header m k ∷ fs)
 unfolding afterFrom taken
 span-header i start m n k fs = span-by i i start (Header m n ∷ fs) (Header m k ∷ fs) (λ t. refl)
 
 pub span-others : (i j start : ℕ) (r : Price → Price) (q : ℕ → Price → Price → Sides) → (j ≡ i → ⊥) → (fs : List Field) → spanOf j start (map (changed i (repriced r q)) fs) ≡ spanOf j start fs
-span-others i j start r q h fs = span-by j j start (map (changed i (repriced r q)) fs) fs (λ t. others-stay i j start (repriced r q) (repriced-keeps r q) h t fs)
+span-others i j start r q h fs = span-by j j start (map (changed i (repriced r q)) fs) fs (λ t. others-stay i j (repriced r q) (repriced-keeps r q) h t fs)
 
 -- ---- an order, as a test
 

@@ -140,7 +140,7 @@ value-turned (d ∷ ds) =
 
 span-turned : (i start : ℕ) (fs : List Field) → Fair fs → spanOf i start (map (changed i turnField) fs) ≡ turnedSpan (spanOf i start fs)
 unfolding spanOf
-span-turned i start fs fair = ap₂ (λ (b : Bool) (z : ℤ). cond b (sum z) missing) (turned-reference i start fs) (moved.turned i start fs fair) ∙ by (hasReference i start fs)
+span-turned i start fs fair = ap₂ (λ (b : Bool) (z : ℤ). cond b (sum z) missing) (turned-reference i fs start) (moved.turned i fs start fair) ∙ by (hasReference i start fs)
   where
     by : (b : Bool) → cond b (sum (negℤ (twapSum i start fs))) missing ≡ turnedSpan (cond b (sum (twapSum i start fs)) missing)
     by true = refl

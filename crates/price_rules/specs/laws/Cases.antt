@@ -94,8 +94,8 @@ cash-sum : twapSum 11 60000000 forCash ≡ pos (300000 * 50)
 unfolding taken
 cash-sum =
     let f = PreviousClose 11 (record { cents = pos 50 }) in
-    ap (sumFrom (centsAt 11 60000000 forCash) 60000000) window-length
-    ∙ reached-sum 11 60000000 forCash 60000000 300000 (taken 11 60000000 empty f) [] (reached-more 11 60000000 forCash 0 60000000 empty f [] (lit≤ tt) (lit≤ tt) (reached-none 11 60000000 forCash)) tt
+    ap (sumFrom (centsAt 11 forCash) 60000000) window-length
+    ∙ reached-sum 11 forCash 60000000 300000 (taken 11 empty f) [] (reached-more 11 forCash 0 60000000 empty f [] (lit≤ tt) (lit≤ tt) (reached-none 11 forCash)) tt
 
 -- a trade at the window's first millisecond
 four-sum : twapSum 3 60000000 fourLots ≡ pos (300000 * 10)
@@ -103,10 +103,10 @@ unfolding taken
 four-sum =
     let f = deal 2 (pos 20) 3 in
     let g = deal 3 (pos 10) 1 in
-    let s = taken 3 60000000 empty f in
-    let by-f = reached-more 3 60000000 fourLots 0 60000000 empty f (g ∷ []) (lit≤ tt) (lit≤ tt) (reached-none 3 60000000 fourLots) in
-    ap (sumFrom (centsAt 3 60000000 fourLots) 60000000) window-length
-    ∙ reached-sum 3 60000000 fourLots 60000000 300000 (taken 3 60000000 s g) [] (reached-more 3 60000000 fourLots 60000000 60000000 s g [] (lit≤ tt) (lit≤ tt) by-f) tt
+    let s = taken 3 empty f in
+    let by-f = reached-more 3 fourLots 0 60000000 empty f (g ∷ []) (lit≤ tt) (lit≤ tt) (reached-none 3 fourLots) in
+    ap (sumFrom (centsAt 3 fourLots) 60000000) window-length
+    ∙ reached-sum 3 fourLots 60000000 300000 (taken 3 s g) [] (reached-more 3 fourLots 60000000 60000000 s g [] (lit≤ tt) (lit≤ tt) by-f) tt
 
 -- and the sums that the windows have
 m1-span : spanOf 7 60000000 forM1 ≡ sum (pos (300000 * 380))

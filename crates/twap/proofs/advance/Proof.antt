@@ -6,10 +6,10 @@ use Rattle.twap.proofs.advance.Statement.{statement}
 use Rattle.twap.proofs.advance.Tie as tie
 
 abbrev Inv-loop : tie.InvT-loop
-Inv-loop sheet instrument start millisecond state₀ at₀ state at = Stands instrument start millisecond sheet (record { state = state; at = at; due = 0 })
+Inv-loop sheet instrument millisecond state₀ at₀ state at = Stands instrument millisecond sheet (record { state = state; at = at; due = 0 })
 
 abbrev μ-loop : tie.MeasureT-loop
-μ-loop sheet instrument start millisecond state₀ at₀ state at = left sheet at
+μ-loop sheet instrument millisecond state₀ at₀ state at = left sheet at
 
 loop-holds : tie.Need-loop-holds Inv-loop μ-loop
 loop-holds c = search walking

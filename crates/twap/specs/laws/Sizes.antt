@@ -19,7 +19,7 @@ use Rattle.sheet.specs.laws.Accepted.{accepted-sound}
 use Rattle.indicator.specs.declared.Side.{Side}
 use Rattle.indicator.specs.declared.Side.the-variants.{Absent, At}
 use Rattle.indicator.specs.declared.Indicator.{Indicator}
-use Rattle.indicator.specs.Indicator.{centsOf, empty, sideOf, elseAt, below, belowOffer, valueBy, bookFrom, afterClose, afterTrade, afterQuote, taken, stamp, afterFrom, after, centsAt, sumFrom, twapSum}
+use Rattle.indicator.specs.Indicator.{centsOf, empty, sideOf, elseAt, below, belowOffer, valueBy, afterClose, afterTrade, afterQuote, taken, stamp, afterFrom, after, centsAt, sumFrom, twapSum}
 use Rattle.indicator.specs.laws.Sums.{sum-size}
 use Rattle.twap.specs.Span.{Accepted}
 
@@ -49,26 +49,25 @@ small-else Absent p h k = k
 small-else (At q) p h k = h
 
 -- a field whose values are in their ranges keeps it so
-small-taken : (i start : ℕ) (s : Indicator) (f : Field) → SmallState s → Sound 0 f → SmallState (taken i start s f)
+small-taken : (i : ℕ) (s : Indicator) (f : Field) → SmallState s → Sound 0 f → SmallState (taken i s f)
 unfolding taken
-small-taken i start s (Header metal marks) h k = h
-small-taken i start s (PreviousClose instrument price) h k =
+small-taken i s (Header metal marks) h k = h
+small-taken i s (PreviousClose instrument price) h k =
     small-pick (eqb instrument i) (afterClose s price) s (record { reference = small-else (s .reference) price (h .reference) (price-size instrument price (k .1)); bid = h .bid; offer = h .offer }) h
-small-taken i start s (Trade time instrument price lots) h k =
+small-taken i s (Trade time instrument price lots) h k =
     small-pick (eqb instrument i) (afterTrade s price) s (record { reference = price-size instrument price (k .price-in); bid = h .bid; offer = h .offer }) h
-small-taken i start s (Quote time instrument sides bid offer) h k =
+small-taken i s (Quote time instrument sides bid offer) h k =
     let z = sides-size 0 time instrument sides bid offer k in
     let new = afterQuote s sides bid offer in
-    small-pick (eqb instrument i) (cond (leb (bookFrom start) time) new s) s
-    (small-pick (leb (bookFrom start) time) new s (record { reference = h .reference; bid = small-side (hasBid sides) bid (z .0); offer = small-side (hasOffer sides) offer (z .1) }) h) h
-small-taken i start s (End count) h k = h
+    small-pick (eqb instrument i) new s (record { reference = h .reference; bid = small-side (hasBid sides) bid (z .0); offer = small-side (hasOffer sides) offer (z .1) }) h
+small-taken i s (End count) h k = h
 
 -- so do all fields of a list
-small-after : (i start t : ℕ) (s : Indicator) (fs : List Field) → SmallState s → Each (Sound 0) fs → SmallState (afterFrom i start t s fs)
+small-after : (i t : ℕ) (s : Indicator) (fs : List Field) → SmallState s → Each (Sound 0) fs → SmallState (afterFrom i t s fs)
 unfolding afterFrom
-small-after i start t s [] h k = h
-small-after i start t s (f ∷ fs) h k =
-    small-after i start t (cond (leb (stamp f) t) (taken i start s f) s) fs (small-pick (leb (stamp f) t) (taken i start s f) s (small-taken i start s f h (k .0)) h) (k .1)
+small-after i t s [] h k = h
+small-after i t s (f ∷ fs) h k =
+    small-after i t (cond (leb (stamp f) t) (taken i s f) s) fs (small-pick (leb (stamp f) t) (taken i s f) s (small-taken i s f h (k .0)) h) (k .1)
 
 -- the indicator is one of the state's prices
 small-cond : (b : Bool) (p q : Price) → natAbs (p .cents) ≤ 99999999 → natAbs (q .cents) ≤ 99999999 → natAbs (cond b p q .cents) ≤ 99999999
@@ -84,18 +83,18 @@ small-value Absent b o h k l = h
 small-value (At p) Absent o h k l = small-offer p o h l
 small-value (At p) (At b) o h k l = small-cond (below p b) b (belowOffer p o) k (small-offer p o h l)
 
-module _ (i start : ℕ) (s : List ℕ) (a : Accepted s) where
+module _ (i : ℕ) (s : List ℕ) (a : Accepted s) where
   -- the indicator at a millisecond
-  pub cents-size : (t : ℕ) → natAbs (centsAt i start (fieldsOf s) t) ≤ 99999999
+  pub cents-size : (t : ℕ) → natAbs (centsAt i (fieldsOf s) t) ≤ 99999999
   cents-size t =
-      let h = small-after i start t empty (fieldsOf s) (record { reference = omega arith; bid = omega arith; offer = omega arith }) (accepted-sound s (a .day) (a .judged)) in
-      let x = after i start t (fieldsOf s) in
+      let h = small-after i t empty (fieldsOf s) (record { reference = omega arith; bid = omega arith; offer = omega arith }) (accepted-sound s (a .day) (a .judged)) in
+      let x = after i t (fieldsOf s) in
       small-value (x .reference) (x .bid) (x .offer) (h .reference) (h .bid) (h .offer)
 
   -- k milliseconds of it
-  pub part-size : (k : ℕ) → natAbs (sumFrom (centsAt i start (fieldsOf s)) start k) ≤ k * 99999999
-  part-size k = sum-size (centsAt i start (fieldsOf s)) start k 99999999 (λ j l h. cents-size j)
+  pub part-size : (start k : ℕ) → natAbs (sumFrom (centsAt i (fieldsOf s)) start k) ≤ k * 99999999
+  part-size start k = sum-size (centsAt i (fieldsOf s)) start k 99999999 (λ j l h. cents-size j)
 
   -- a window of it
-  pub span-size : natAbs (twapSum i start (fieldsOf s)) ≤ 300000 * 99999999
-  span-size = omega (arith, part-size windowLength, window-length)
+  pub span-size : (start : ℕ) → natAbs (twapSum i start (fieldsOf s)) ≤ 300000 * 99999999
+  span-size start = omega (arith, part-size start windowLength, window-length)

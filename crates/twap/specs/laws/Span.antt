@@ -22,7 +22,7 @@ accepted-by {day = day} e d = record { day = day; judged = sym e ∙ ap judgedSa
 -- a reference is a previous close, or a trade by then
 pub span-told : (i start : ℕ) (fs : List Field) → spanOf i start fs ≡ cond (toldBy i start fs) (sum (twapSum i start fs)) missing
 unfolding spanOf
-span-told i start fs = ap (λ (b : Bool). cond b (sum (twapSum i start fs)) missing) (reference-told i start start fs)
+span-told i start fs = ap (λ (b : Bool). cond b (sum (twapSum i start fs)) missing) (reference-told i start fs)
 
 abbrev summed-of : Span → Summed
 summed-of missing = S.Missing

@@ -74,13 +74,13 @@ accepted-rising s a =
 -- ---- the walk
 
 -- the state and the fields from the place on say what all the fields say at t and later, and none of those fields counts before it is due
-pub record Stands (i start t : ℕ) (s : List ℕ) (w : Walk) : Type 0 where
-  pub reached : Reached i start t (fieldsOf s) (w .state) (fieldsAt s (w .at))
+pub record Stands (i t : ℕ) (s : List ℕ) (w : Walk) : Type 0 where
+  pub reached : Reached i t (fieldsOf s) (w .state) (fieldsAt s (w .at))
   pub rising : Rising (w .due) (fieldsAt s (w .at))
 
 -- before the first field
-pub stands-first : (i start t : ℕ) (s : List ℕ) {state : Indicator} → Accepted s → state ≡ empty → Stands i start t s (record { state = state; at = 0; due = 0 })
-stands-first i start t s a e = rw e (record { reached = reached-later i start (fieldsOf s) 0 t empty (fieldsOf s) zero-le (reached-none i start (fieldsOf s)); rising = accepted-rising s a })
+pub stands-first : (i t : ℕ) (s : List ℕ) {state : Indicator} → Accepted s → state ≡ empty → Stands i t s (record { state = state; at = 0; due = 0 })
+stands-first i t s a e = rw e (record { reached = reached-later i (fieldsOf s) 0 t empty (fieldsOf s) zero-le (reached-none i (fieldsOf s)); rising = accepted-rising s a })
 
 -- behind a field the rest rises
 rest-rises : (f : Field) (fs : List Field) → Rising 0 (f ∷ fs) → Rising 0 fs
@@ -99,40 +99,40 @@ stamp-rises (Quote time instrument sides bid offer) fs r = (le-refl time, r .1)
 stamp-rises (End count) fs r = r
 
 -- a walk as it begins to advance: a field may be due at once
-pub stands-begun : (i start t : ℕ) (s : List ℕ) (w : Walk) → Stands i start t s w → Stands i start t s (record { state = w .state; at = w .at; due = 0 })
-stands-begun i start t s w o = record { reached = o .reached; rising = rising-low 0 (w .due) (fieldsAt s (w .at)) zero-le (o .rising) }
+pub stands-begun : (i t : ℕ) (s : List ℕ) (w : Walk) → Stands i t s w → Stands i t s (record { state = w .state; at = w .at; due = 0 })
+stands-begun i t s w o = record { reached = o .reached; rising = rising-low 0 (w .due) (fieldsAt s (w .at)) zero-le (o .rising) }
 
-module _ (i start t : ℕ) (s : List ℕ) (state : Indicator) (at : ℕ) (o : Stands i start t s (record { state = state; at = at; due = 0 })) {r : Read} (e : readSays r ≡ shapeAt s at) where
+module _ (i t : ℕ) (s : List ℕ) (state : Indicator) (at : ℕ) (o : Stands i t s (record { state = state; at = at; due = 0 })) {r : Read} (e : readSays r ≡ shapeAt s at) where
   -- no field is left
-  pub stands-end : {number place : ℕ} → r ≡ R.Refused number place → (due : ℕ) → Stands i start t s (record { state = state; at = at; due = due })
+  pub stands-end : {number place : ℕ} → r ≡ R.Refused number place → (due : ℕ) → Stands i t s (record { state = state; at = at; due = due })
   stands-end d due = record { reached = o .reached; rising = rw (fields-stop s at (read-stopped s at e d)) tt }
 
   module _ {f : Field} {next x : ℕ} (d : r ≡ R.Field f next) (k : x ≡ stamp f) where
     -- the next field comes later
-    pub stands-later : Stands i start t s (record { state = state; at = at; due = x })
+    pub stands-later : Stands i t s (record { state = state; at = at; due = x })
     stands-later =
         let q = fields-gave s at (read-gave s at e d) in
         rw k (record { reached = o .reached; rising = subst⁻¹ (Rising (stamp f)) q (stamp-rises f (fieldsAt s next) (subst (Rising 0) q (o .rising))) })
 
     -- one field more
-    pub stands-next : x ≤ t → {b : Indicator} → b ≡ taken i start state f → Stands i start t s (record { state = b; at = next; due = 0 })
+    pub stands-next : x ≤ t → {b : Indicator} → b ≡ taken i state f → Stands i t s (record { state = b; at = next; due = 0 })
     stands-next l g =
         let q = fields-gave s at (read-gave s at e d) in
         let due : stamp f ≤ t = omega (arith, k) in
         rw g (record {
-          reached = reached-more i start (fieldsOf s) t t state f (fieldsAt s next) (le-refl t) due (subst (Reached i start t (fieldsOf s) state) q (o .reached));
+          reached = reached-more i (fieldsOf s) t t state f (fieldsAt s next) (le-refl t) due (subst (Reached i t (fieldsOf s) state) q (o .reached));
           rising = rest-rises f (fieldsAt s next) (subst (Rising 0) q (o .rising));
         })
 
 pub ruleset walking = (stands-begun, stands-end, stands-later, stands-next, less-read, needs)
 
 -- until the next field is due the state is the indicator's
-pub stands-state : (i start t : ℕ) (s : List ℕ) (w : Walk) → Stands i start t s w → t < w .due → after i start t (fieldsOf s) ≡ w .state
-stands-state i start t s w o l = reached-state i start (fieldsOf s) t t (w .due) (w .state) (fieldsAt s (w .at)) (o .reached) (le-refl t) l (o .rising)
+pub stands-state : (i t : ℕ) (s : List ℕ) (w : Walk) → Stands i t s w → t < w .due → after i t (fieldsOf s) ≡ w .state
+stands-state i t s w o l = reached-state i (fieldsOf s) t t (w .due) (w .state) (fieldsAt s (w .at)) (o .reached) (le-refl t) l (o .rising)
 
 -- a later millisecond is before it
-pub stands-on : (i start t u : ℕ) (s : List ℕ) (w : Walk) → t ≤ u → Stands i start t s w → Stands i start u s w
-stands-on i start t u s w l o = record { reached = reached-later i start (fieldsOf s) t u (w .state) (fieldsAt s (w .at)) l (o .reached); rising = o .rising }
+pub stands-on : (i t u : ℕ) (s : List ℕ) (w : Walk) → t ≤ u → Stands i t s w → Stands i u s w
+stands-on i t u s w l o = record { reached = reached-later i (fieldsOf s) t u (w .state) (fieldsAt s (w .at)) l (o .reached); rising = o .rising }
 
 -- ---- the sum
 
@@ -142,44 +142,44 @@ withSide total side = record { cents = total .cents +ℤ centsOf side }
 
 -- k milliseconds are summed, and the walk is before the next
 pub record Summing (i start : ℕ) (s : List ℕ) (w : Walk) (total : Total) (k : ℕ) : Type 0 where
-  pub stands : Stands i start (start + k) s w
-  pub same : total .cents ≡ sumFrom (centsAt i start (fieldsOf s)) start k
+  pub stands : Stands i (start + k) s w
+  pub same : total .cents ≡ sumFrom (centsAt i (fieldsOf s)) start k
 
 module _ (i start : ℕ) (s : List ℕ) where
   -- no millisecond yet
-  pub sum-start : (w : Walk) → Stands i start start s w → Summing i start s w (record { cents = pos 0 }) 0
+  pub sum-start : (w : Walk) → Stands i start s w → Summing i start s w (record { cents = pos 0 }) 0
   sum-start w o =
       let e : start ≡ start + 0 = omega arith in
-      record { stands = subst (λ (t : ℕ). Stands i start t s w) e o; same = sym (sum-none _ start) }
+      record { stands = subst (λ (t : ℕ). Stands i t s w) e o; same = sym (sum-none _ start) }
 
   -- the total is far from the limits of its type
   pub sum-small : (w : Walk) (total : Total) (k : ℕ) → Accepted s → k ≤ 300000 → Summing i start s w total k → natAbs (total .cents) ≤ 300000 * 99999999
-  sum-small w total k a l o = rw (o .same) (omega (arith, part-size i start s a k))
+  sum-small w total k a l o = rw (o .same) (omega (arith, part-size i s a start k))
 
   -- one millisecond more, of an advanced walk
-  pub sum-next : (w r : Walk) (total : Total) (k : ℕ) → Summing i start s w total k → Stands i start (start + k) s r → start + k < r .due
+  pub sum-next : (w r : Walk) (total : Total) (k : ℕ) → Summing i start s w total k → Stands i (start + k) s r → start + k < r .due
       → {v : Side} → v ≡ valueOf (r .state) → {u : Total} → u ≡ withSide total v → Summing i start s r u (k + 1)
   sum-next w r total k o a l {v} e {u} g =
-      let value : centsOf v ≡ centsAt i start (fieldsOf s) (start + k) = ap centsOf (e ∙ ap valueOf (sym (stands-state i start (start + k) s r a l))) in
+      let value : centsOf v ≡ centsAt i (fieldsOf s) (start + k) = ap centsOf (e ∙ ap valueOf (sym (stands-state i (start + k) s r a l))) in
       record {
-        stands = stands-on i start (start + k) (start + (k + 1)) s r (omega arith) a;
-        same = ap (λ (x : Total). x .cents) g ∙ sum-step (centsAt i start (fieldsOf s)) start k (o .same) value;
+        stands = stands-on i (start + k) (start + (k + 1)) s r (omega arith) a;
+        same = ap (λ (x : Total). x .cents) g ∙ sum-step (centsAt i (fieldsOf s)) start k (o .same) value;
       }
 
   -- the whole window
   pub sum-done : (w : Walk) (total : Total) (k : ℕ) → Summing i start s w total k → k ≤ 300000 → 300000 ≤ k → total .cents ≡ twapSum i start (fieldsOf s)
   sum-done w total k o l h =
       let all : k ≡ windowLength = omega (arith, window-length) in
-      o .same ∙ ap (sumFrom (centsAt i start (fieldsOf s)) start) all
+      o .same ∙ ap (sumFrom (centsAt i (fieldsOf s)) start) all
 
 pub ruleset summing = (sum-start, sum-small, sum-next, sum-done, needs)
 
 -- ---- the answers
 
-module _ (i start : ℕ) (s : List ℕ) (w : Walk) (o : Stands i start start s w) (l : start < w .due) {b : Bool} (e : b ≡ present (w .state .reference)) where
+module _ (i start : ℕ) (s : List ℕ) (w : Walk) (o : Stands i start s w) (l : start < w .due) {b : Bool} (e : b ≡ present (w .state .reference)) where
   -- the walk's reference is the indicator's at the window's first millisecond
   referred : hasReference i start (fieldsOf s) ≡ b
-  referred = ap (λ (x : Indicator). present (x .reference)) (stands-state i start start s w o l) ∙ sym e
+  referred = ap (λ (x : Indicator). present (x .reference)) (stands-state i start s w o l) ∙ sym e
 
   pub span-missing : b ≡ false → missing ≡ spanOf i start (fieldsOf s)
   unfolding spanOf
