@@ -33,13 +33,12 @@ impl Indicator {
         }
     }
 
-    /// A record of this instrument, in a window that starts at `start`: a quote
-    /// stamped before the start doesn't fill the book.
-    pub fn after(self, record: &Record, start: u32) -> Self {
+    /// A record of this instrument, at whatever time of the day: an order given
+    /// before the window rests into it.
+    pub fn after(self, record: &Record) -> Self {
         match record {
             Record::Trade(trade) => self.after_trade(trade.price),
-            Record::Quote(quote) if quote.time >= start => self.after_quote(quote),
-            Record::Quote(_) => self,
+            Record::Quote(quote) => self.after_quote(quote),
         }
     }
 
@@ -66,7 +65,7 @@ pub fn sum_by_walking(day: &Day, instrument: u8, start: u32) -> Option<i128> {
     let mut sum = 0;
     for millisecond in start..start.saturating_add(WINDOW) {
         while let Some(record) = records.next_if(|record| record.time() <= millisecond) {
-            indicator = indicator.after(record, start);
+            indicator = indicator.after(record);
         }
         sum += indicator.value()?;
     }
@@ -88,7 +87,7 @@ pub fn sum_by_spans(day: &Day, instrument: u8, start: u32) -> Option<i128> {
             sum += indicator.value()? * i128::from(record.time() - from);
             from = record.time();
         }
-        indicator = indicator.after(record, start);
+        indicator = indicator.after(record);
     }
     Some(sum + indicator.value()? * i128::from(behind - from))
 }

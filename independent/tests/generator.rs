@@ -2,6 +2,7 @@
 //! as they were meant to be, every number and every kind of answer comes up.
 
 use independent::draft::{ended_sheet, header};
+use independent::field::Quote;
 use independent::generator::fault::sheet_with_fault;
 use independent::generator::sized::sized_sheet;
 use independent::generator::{accepted_sheet, damaged_sheet, random_sheet};
@@ -10,7 +11,7 @@ use independent::pricing::{exact_price, price_day_by_spans, step_of, Method};
 use independent::random::Random;
 use independent::sheet::Record;
 use independent::stream::{cases, frames, stream_of_cases, tally};
-use independent::tables::{metal_row, WINDOW};
+use independent::tables::{in_window, metal_row, window_start, CONTRACTS, WINDOW};
 use independent::{closing_list, judge_sheet, Answer, Day};
 use std::collections::HashMap;
 
@@ -60,7 +61,7 @@ fn kinds_of_answers(day: &Day, kinds: &mut HashMap<(usize, String), usize>) {
 #[test]
 fn every_kind_of_answer_comes_up_for_every_contract() {
     let mut kinds = HashMap::new();
-    for day in accepted_days(6_000) {
+    for day in accepted_days(9_000) {
         kinds_of_answers(&day, &mut kinds);
     }
     for contract in 0..6 {
@@ -98,6 +99,66 @@ fn every_metal_mark_edge_and_side_comes_up() {
     let window = i64::from(WINDOW);
     for edge in [-1, 0, 1, window - 1, window] {
         assert!(edges[&(false, edge)] > 100 && edges[&(true, edge)] > 100, "{edge}");
+    }
+}
+
+/// The answers with the record at a place changed or taken out are others.
+fn decides(day: &Day, place: usize, change: fn(Record) -> Option<Record>) -> bool {
+    let mut changed = day.clone();
+    let record = changed.records.remove(place);
+    if let Some(record) = change(record) {
+        changed.records.insert(place, record);
+    }
+    price_day_by_spans(&changed) != price_day_by_spans(day)
+}
+
+/// The same quote with neither side.
+fn emptied(record: Record) -> Option<Record> {
+    match record {
+        Record::Quote(quote) => Some(Record::Quote(Quote { sides: 0, bid: 0, offer: 0, ..quote })),
+        trade => Some(trade),
+    }
+}
+
+/// How the quotes of an instrument lie to its window: how many come before it
+/// and inside it; and on how many sheets one that rests at its start decides an
+/// answer, and an empty one, before it or inside it, takes away what would.
+#[derive(Debug, Default)]
+struct Quotes {
+    before: usize,
+    inside: usize,
+    resting: usize,
+    emptied_before: usize,
+    emptied_inside: usize,
+}
+
+impl Quotes {
+    fn count(&mut self, day: &Day, instrument: u8) {
+        let start = window_start(metal_row(day.metal).unwrap(), instrument);
+        let quotes = day.records.iter().enumerate().filter_map(|(place, record)| match record {
+            Record::Quote(quote) if quote.instrument == instrument => Some((place, *quote)),
+            _ => None,
+        });
+        let (before, others): (Vec<_>, Vec<_>) = quotes.partition(|(_, quote)| quote.time < start);
+        let inside: Vec<_> = others.into_iter().filter(|(_, quote)| in_window(start, quote.time)).collect();
+        let empties = |(place, quote): &(usize, Quote)| quote.sides == 0 && decides(day, *place, |_| None);
+        self.before += before.len();
+        self.inside += inside.len();
+        self.resting += usize::from(before.last().is_some_and(|(place, _)| decides(day, *place, emptied)));
+        self.emptied_before += usize::from(before.last().is_some_and(empties));
+        self.emptied_inside += usize::from(inside.iter().any(empties));
+    }
+}
+
+#[test]
+fn g1_quotes_come_before_the_window_as_often_as_inside_it() {
+    for row in &CONTRACTS {
+        let mut quotes = Quotes::default();
+        accepted_days(900).for_each(|day| quotes.count(&day, row.twap_from));
+        let least = (quotes.before + quotes.inside) * 2 / 5;
+        assert!(quotes.before >= least && quotes.inside >= least, "{} {quotes:?}", row.name);
+        assert!(quotes.resting >= 40, "{} {quotes:?}", row.name);
+        assert!(quotes.emptied_before >= 5 && quotes.emptied_inside >= 20, "{} {quotes:?}", row.name);
     }
 }
 

@@ -5,7 +5,7 @@ use independent::laws::{has_14, moved_alike, possible_steps, shift_sheet, turn_s
 use independent::pricing::price_day_by_spans;
 use independent::stream::{shifted, turned};
 use independent::tables::metal_row;
-use independent::{judge_sheet, Answer, Day};
+use independent::{judge_sheet, Answer, Day, Method};
 
 fn day(sheet: &[u8]) -> Day {
     judge_sheet(sheet).expect("an accepted sheet")
@@ -68,6 +68,38 @@ fn r3_a_spread_is_turned_with_its_mark_and_sides() {
     assert_eq!(turn_sheet(&turned, 3), Some(plain.clone()));
     assert_eq!(turn_sheet(&plain, 0), None);
     assert_eq!(turn_sheet(&plain, 12), None);
+}
+
+/// A bid in each book of a Copper sheet, resting since noon: 3M 100 above its
+/// close of 900,000, and the spreads 10 to 50 above theirs of 0.
+fn resting_sheet() -> Vec<u8> {
+    let mut fields = vec![header(4, 0), close(0, 900_000)];
+    fields.extend([1, 3, 5, 7, 11].map(|spread| close(spread, 0)));
+    fields.push(quote(43_200_000, 0, 1, 900_100, 0));
+    let bids = [(1, 10), (3, 20), (5, 30), (7, 40), (11, 50)];
+    fields.extend(bids.map(|(spread, bid)| quote(43_200_000, spread, 1, bid, 0)));
+    ended_sheet(&fields)
+}
+
+#[test]
+fn g1_resting_bids_obey_both_laws() {
+    let sheet = resting_sheet();
+    let moved = |cents: i64| {
+        [900_100, 900_110, 900_130, 900_080, 900_170, 900_220].map(|price| Answer::Priced {
+            method: Method::Twap,
+            price: price + cents,
+            lots: 0,
+        })
+    };
+    assert_eq!(answers(&sheet), moved(0));
+    for steps in [-17_000, -1, 1, 3, 1_900_000] {
+        let shifted = shift_sheet(&sheet, steps).unwrap();
+        assert_eq!(answers(&shifted), moved(50 * steps), "{steps}");
+    }
+    for spread in 1..=11 {
+        let turned = turn_sheet(&sheet, spread).unwrap();
+        assert_eq!(answers(&turned), moved(0), "{spread}");
+    }
 }
 
 #[test]

@@ -33,7 +33,7 @@ fn names_are_told_apart() {
 }
 
 #[test]
-fn every_row_of_b_and_c_seen_from_outside_has_a_named_case() {
+fn every_row_of_b_c_and_g_seen_from_outside_has_a_named_case() {
     let cases = named_cases();
     let large = large_cases();
     let named = |id: &str| {
@@ -45,6 +45,9 @@ fn every_row_of_b_and_c_seen_from_outside_has_a_named_case() {
     }
     for row in 1..=18 {
         assert!(named(&format!("C{row}")), "C{row}");
+    }
+    for row in 1..=2 {
+        assert!(named(&format!("G{row}")), "G{row}");
     }
 }
 

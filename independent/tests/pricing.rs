@@ -1,12 +1,13 @@
 //! The arithmetic against slower words: rounding against a search, the spans
-//! against the walk, and 13 against its own sentence.
+//! against the walk, the indicator and 13 against their own sentences.
 
+use independent::field::{BID, OFFER};
 use independent::generator::{accepted_sheet, sized::sized_sheet};
 use independent::indicator::{sum_by_spans, sum_by_walking};
 use independent::pricing::{price_day_by_spans, round_to_step};
 use independent::random::Random;
 use independent::sheet::Record;
-use independent::tables::{in_window, metal_row, window_start, CONTRACTS};
+use independent::tables::{in_window, metal_row, window_start, CONTRACTS, WINDOW};
 use independent::{judge_sheet, price_day, Answer, Day};
 
 /// The greatest multiple m of u with 2Dm <= 2N + Du, by searching downwards.
@@ -66,6 +67,41 @@ fn spans_equal_the_walk_on_every_instrument() {
 fn both_ways_give_the_same_answers() {
     for day in random_days(600) {
         assert_eq!(price_day(&day), price_day_by_spans(&day));
+    }
+}
+
+/// What the indicator says (RULES 7) at a millisecond: the last trade so far or
+/// the previous close, and the sides of the latest quote so far.
+fn words_of_the_indicator(day: &Day, instrument: u8, millisecond: u32) -> Option<i128> {
+    let so_far = |record: &&Record| record.instrument() == instrument && record.time() <= millisecond;
+    let trade = day.records.iter().rev().filter(so_far).find_map(|record| match record {
+        Record::Trade(trade) => Some(trade.price),
+        Record::Quote(_) => None,
+    });
+    let quote = day.records.iter().rev().filter(so_far).find_map(|record| match record {
+        Record::Trade(_) => None,
+        Record::Quote(quote) => Some(quote),
+    });
+    let reference = trade.or(day.previous_close(instrument))?;
+    let value = match quote {
+        Some(quote) if quote.sides & BID != 0 && quote.bid > reference => quote.bid,
+        Some(quote) if quote.sides & OFFER != 0 && quote.offer < reference => quote.offer,
+        _ => reference,
+    };
+    Some(i128::from(value))
+}
+
+#[test]
+fn g1_the_sum_follows_the_indicators_words() {
+    for day in random_days(15) {
+        let metal = metal_row(day.metal).unwrap();
+        for row in &CONTRACTS {
+            let start = window_start(metal, row.twap_from);
+            let window = start..start + WINDOW;
+            let sum: Option<i128> =
+                window.map(|millisecond| words_of_the_indicator(&day, row.twap_from, millisecond)).sum();
+            assert_eq!(sum_by_walking(&day, row.twap_from, start), sum);
+        }
     }
 }
 

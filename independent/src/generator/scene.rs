@@ -23,6 +23,8 @@ enum Activity {
     HalfVwap,
     /// A TWAP on, just below or just above a half.
     HalfTwap,
+    /// A side that rests from before the window, or is taken away.
+    Resting,
     /// Trades at the edges of both windows.
     Edges,
     /// No previous close, a trade at the window's first millisecond.
@@ -31,7 +33,7 @@ enum Activity {
     TradeBehindStart,
 }
 
-const ACTIVITIES: [Activity; 14] = [
+const ACTIVITIES: [Activity; 16] = [
     Activity::Nothing,
     Activity::Nothing,
     Activity::FiveLots,
@@ -43,6 +45,8 @@ const ACTIVITIES: [Activity; 14] = [
     Activity::HalfVwap,
     Activity::HalfTwap,
     Activity::HalfTwap,
+    Activity::Resting,
+    Activity::Resting,
     Activity::Edges,
     Activity::Edges,
     Activity::TradeAtStart,
@@ -173,6 +177,7 @@ impl<'a> Scene<'a> {
             }
             Activity::HalfVwap => self.half_vwap(contract),
             Activity::HalfTwap => return self.half_twap(contract),
+            Activity::Resting => return self.resting(contract),
             Activity::Edges => self.edges(contract),
             Activity::TradeAtStart => self.first_trade(contract, 0),
             Activity::TradeBehindStart => self.first_trade(contract, 1),
@@ -217,6 +222,7 @@ impl<'a> Scene<'a> {
 
     /// The reference for half of the window and a better side one step away
     /// for the other half; or one millisecond of a side 150,000 steps away.
+    /// The side comes in the window, or rests from before it until it goes.
     fn half_twap(&mut self, contract: usize) {
         let instrument = CONTRACTS[contract].twap_from;
         let start = window_start(self.metal, instrument);
@@ -227,15 +233,44 @@ impl<'a> Scene<'a> {
             self.add_trade(time, instrument, low, 1);
         }
         let nudge = self.random.pick(&[-1, 0, 0, 1]);
-        let (time, away) = if instrument != 0 && self.random.chance(40) {
-            (start + WINDOW - 1, 150_000 + nudge)
+        let (length, away) = if instrument != 0 && self.random.chance(40) {
+            (1, 150_000 + nudge)
         } else {
-            ((start + WINDOW / 2).saturating_add_signed(nudge), step)
+            ((WINDOW / 2).saturating_add_signed(nudge), step)
         };
-        let up = self.random.chance(50);
-        let side = self.inside(instrument, if up { low + away } else { low - away });
-        let (sides, bid, offer) = if up { (BID, side, 0) } else { (OFFER, 0, side) };
-        self.add_quote(time, instrument, sides, bid, offer);
+        if self.random.chance(50) {
+            return self.add_better_side(start + WINDOW - length, instrument, low, away);
+        }
+        let time = self.time_before(instrument);
+        self.add_better_side(time, instrument, low, away);
+        self.add_quote(start + length, instrument, 0, 0, 0);
+    }
+
+    /// A side better than the previous close from before the window on; half
+    /// the time an empty quote comes behind it, before the window or inside it.
+    fn resting(&mut self, contract: usize) {
+        let instrument = CONTRACTS[contract].twap_from;
+        let (low, step) = self.stepped_price(instrument);
+        self.previous_closes[usize::from(instrument)] = Some(low);
+        let time = self.time_before(instrument);
+        let away = step * self.random.price(1, 9);
+        self.add_better_side(time, instrument, low, away);
+        if self.random.chance(50) {
+            let later = self.time_around(instrument).max(time);
+            self.add_quote(later, instrument, 0, 0, 0);
+        }
+    }
+
+    /// A quote of a bid so far above the reference alone, or an offer so far
+    /// below it.
+    fn add_better_side(&mut self, time: u32, instrument: u8, reference: i32, away: i32) {
+        if self.random.chance(50) {
+            let bid = self.inside(instrument, reference + away);
+            self.add_quote(time, instrument, BID, bid, 0);
+        } else {
+            let offer = self.inside(instrument, reference - away);
+            self.add_quote(time, instrument, OFFER, 0, offer);
+        }
     }
 
     /// Trades at the first and last millisecond of both windows and just
@@ -381,18 +416,27 @@ impl<'a> Scene<'a> {
         }
     }
 
-    /// A time in or near the instrument's window, edges more often.
+    /// A time before the instrument's window: the day's first, the last before
+    /// the window, any between, and mostly of the five minutes before it.
+    fn time_before(&mut self, instrument: u8) -> u32 {
+        let start = window_start(self.metal, instrument);
+        match self.random.below(6) {
+            0 => 0,
+            1 => start - 1,
+            2 => self.random.time(0, start - 1),
+            _ => self.random.time(start - WINDOW, start - 1),
+        }
+    }
+
+    /// A time before the instrument's window as often as inside it, now and
+    /// then right behind it; edges more often.
     fn time_around(&mut self, instrument: u8) -> u32 {
         let start = window_start(self.metal, instrument);
-        let behind = start + WINDOW;
-        match self.random.below(14) {
-            0 => start - 1,
-            1 => start,
-            2 => start + 1,
-            3 => behind - 1,
-            4 => behind,
-            5 => self.random.time(start - WINDOW, start),
-            _ => self.random.time(start, behind - 1),
+        match self.random.below(16) {
+            0 => start + WINDOW,
+            1 => start + 1,
+            2..=8 => self.time_inside(instrument),
+            _ => self.time_before(instrument),
         }
     }
 

@@ -8,6 +8,7 @@ mod longest;
 mod order;
 mod papers;
 mod pricing;
+mod resting;
 mod signs;
 
 use crate::draft::{close, ended_sheet, header, quote, sheet_of, trade};
@@ -116,6 +117,7 @@ pub fn named_cases() -> Vec<NamedCase> {
     cases.extend(edges::cases());
     cases.extend(signs::cases());
     cases.extend(pricing::cases());
+    cases.extend(resting::cases());
     cases.extend(papers::cut_nickel_sheets());
     cases.extend(at_the_lists_limit());
     cases

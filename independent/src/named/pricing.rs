@@ -6,8 +6,8 @@ use super::{NamedCase, ANCHOR, COPPER, SPREAD};
 use crate::draft::{close, ended_sheet, header, quote, trade};
 use crate::field::Field;
 
-const HALF: u32 = SPREAD + 150_000;
-const FLAT: &str = "TWAP 900000 0";
+pub(super) const HALF: u32 = SPREAD + 150_000;
+pub(super) const FLAT: &str = "TWAP 900000 0";
 
 pub(super) fn cases() -> Vec<NamedCase> {
     let mut cases = references();
@@ -30,14 +30,20 @@ pub(super) fn cases() -> Vec<NamedCase> {
 }
 
 /// The flat list with this M3, all later ones following it.
-fn m3_list(answer: &str, price: &str) -> String {
+pub(super) fn m3_list(answer: &str, price: &str) -> String {
     let rest = format!("TWAP {price} 0");
     copper([FLAT, answer, &rest, &rest, &rest, &rest])
 }
 
+/// The list with all six by TWAP at this price with 0 lots.
+pub(super) fn all_at(price: &str) -> String {
+    let answer = format!("TWAP {price} 0");
+    copper([answer.as_str(); 6])
+}
+
 /// The flat Copper sheet with these records, and M3 by TWAP at this price with
 /// this many lots.
-fn m3(name: &str, records: &[Field], price: &str, lots: u32) -> NamedCase {
+pub(super) fn m3(name: &str, records: &[Field], price: &str, lots: u32) -> NamedCase {
     let answer = format!("TWAP {price} {lots}");
     case(name, flat(records), &m3_list(&answer, price))
 }
@@ -172,15 +178,15 @@ fn books() -> Vec<NamedCase> {
 /// C9: which quotes fill the book; a bid of 300,000 for a millisecond is 1 cent.
 fn book_edges() -> Vec<NamedCase> {
     let bid_at = |name: &str, time: u32, price: &str| m3(name, &[quote(time, 1, 1, 300_000, 0)], price, 0);
-    let resting = [quote(SPREAD - 1, 1, 1, 40, 0), quote(SPREAD, 1, 1, 10, 0)];
+    let replaced = [quote(SPREAD - 1, 1, 1, 40, 0), quote(SPREAD, 1, 1, 10, 0)];
     vec![
         bid_at("C9 a bid at the start", SPREAD, "1200000"),
-        bid_at("C9 a bid at start - 1", SPREAD - 1, "900000"),
-        bid_at("C9 a bid at time 0", 0, "900000"),
+        bid_at("C9 a bid at start - 1", SPREAD - 1, "1200000"),
+        bid_at("C9 a bid at time 0", 0, "1200000"),
         bid_at("C9 a bid at start + 1", SPREAD + 1, "1199999"),
         bid_at("C9 a bid at the last millisecond", SPREAD + 299_999, "900001"),
         bid_at("C9 a bid behind the window", SPREAD + 300_000, "900000"),
-        m3("C9 a bid at start - 1 and one at start", &resting, "900010", 0),
+        m3("C9 a bid at start - 1 and one at start", &replaced, "900010", 0),
     ]
 }
 
@@ -242,19 +248,15 @@ fn last_trades() -> Vec<NamedCase> {
     ]
 }
 
-/// C10: 3M's last trade may lie in the spread window; its book may not.
+/// C9, C10: 3M's last trade and its book may come from the spread window.
 fn last_trades_of_3m() -> Vec<NamedCase> {
-    let all = |price: &str| {
-        let rest = format!("TWAP {price} 0");
-        copper([rest.as_str(); 6])
-    };
     let early = trade(SPREAD, 0, 900_100, 9);
     let resting = quote(ANCHOR - 1, 0, 1, 900_100, 0);
     let quoted = quote(ANCHOR, 0, 1, 900_100, 0);
     vec![
-        case("C10 3M traded in the spread window", flat(&[early]), &all("900100")),
-        case("C9 3M quoted before the anchor window", flat(&[resting]), &all("900000")),
-        case("C9 3M quoted at the anchor start", flat(&[quoted]), &all("900100")),
+        case("C10 3M traded in the spread window", flat(&[early]), &all_at("900100")),
+        case("C9 3M quoted before the anchor window", flat(&[resting]), &all_at("900100")),
+        case("C9 3M quoted at the anchor start", flat(&[quoted]), &all_at("900100")),
     ]
 }
 
@@ -282,18 +284,14 @@ fn roundings() -> Vec<NamedCase> {
 
 /// 3M by TWAP on and beside the half step of 25 cents.
 fn outright_twap() -> Vec<NamedCase> {
-    let all = |price: &str| {
-        let rest = format!("TWAP {price} 0");
-        copper([rest.as_str(); 6])
-    };
     let bid_at = |time: u32| flat(&[quote(time, 0, 1, 900_050, 0)]);
     let offer_at = |time: u32| flat(&[quote(time, 0, 2, 0, 899_950)]);
     let half = ANCHOR + 150_000;
     vec![
-        case("3M on the half step", bid_at(half), &all("900050")),
-        case("3M one millisecond below the half", bid_at(half + 1), &all("900000")),
-        case("3M on the half step below", offer_at(half), &all("900000")),
-        case("3M one millisecond further below", offer_at(half - 1), &all("899950")),
+        case("3M on the half step", bid_at(half), &all_at("900050")),
+        case("3M one millisecond below the half", bid_at(half + 1), &all_at("900000")),
+        case("3M on the half step below", offer_at(half), &all_at("900000")),
+        case("3M one millisecond further below", offer_at(half - 1), &all_at("899950")),
     ]
 }
 
