@@ -406,6 +406,7 @@ int main(int argc, char **argv)
     look_at_sample(folder, "copper");
     look_at_sample(folder, "torn");
     look_at_sample(folder, "no_reference");
+    look_at_sample(folder, "resting");
     look_at_longest();
     look_at_longest_listed();
     look_far();

@@ -3,11 +3,21 @@
 use bliskoru::{Answer, Field, Method, LIST_ROOM};
 use independent::list::{closing_list, closing_list_by_spans};
 use independent::pricing::{price_day, price_day_by_spans};
+use independent::sheet::Record;
+use independent::tables::{metal_row, window_start};
 use independent::{judge_sheet, Day, Refusal};
 use std::fmt::Debug;
 
-/// What both say: the metal and the six answers, or the refusal.
-pub type Told = Result<(u8, [Answer; 6]), Refusal>;
+/// What both say of an accepted sheet, and whether a quote that rests from before a window decides one of the answers.
+#[derive(Clone, Copy)]
+pub struct Accepted {
+    pub metal: u8,
+    pub answers: [Answer; 6],
+    pub resting: bool,
+}
+
+/// What both say: of an accepted sheet, or the refusal.
+pub type Told = Result<Accepted, Refusal>;
 
 /// What the room for a list is filled with.
 const FILL: u8 = 0xA5;
@@ -35,7 +45,7 @@ pub fn look(sheet: &[u8], item: u64, walked: bool) -> Result<Told, String> {
     let told = told(&judged, if walked { price_day } else { price_day_by_spans });
     let refusal = |no: bliskoru::Refusal| (no.reason.number(), no.byte);
     same("judgement", &bliskoru::judge(sheet).map_err(refusal), &told.map(|_| ()))?;
-    same("answers", &bliskoru::answers(sheet).map_err(refusal), &told.map(|(_, answers)| answers))?;
+    same("answers", &bliskoru::answers(sheet).map_err(refusal), &told.map(|accepted| accepted.answers))?;
     look_at_list(sheet, walked)?;
     if sheet.len() <= LONGEST_READ {
         look_at_fields(sheet, item)?;
@@ -45,9 +55,23 @@ pub fn look(sheet: &[u8], item: u64, walked: bool) -> Result<Told, String> {
 
 fn told(judged: &Result<Day, Refusal>, price: fn(&Day) -> [independent::Answer; 6]) -> Told {
     match judged {
-        Ok(day) => Ok((day.metal, price(day).map(|answer| in_the_librarys_words(&answer)))),
+        Ok(day) => {
+            let answers = price(day).map(|answer| in_the_librarys_words(&answer));
+            Ok(Accepted { metal: day.metal, answers, resting: is_decided_by_resting(day) })
+        }
         Err(refusal) => Err(*refusal),
     }
+}
+
+/// Are the answers others without the quotes that came before the windows of their instruments?
+fn is_decided_by_resting(day: &Day) -> bool {
+    let Some(metal) = metal_row(day.metal) else {
+        return false;
+    };
+    let rests = |record: &Record| matches!(record, Record::Quote(quote) if quote.time < window_start(metal, quote.instrument));
+    let mut without = day.clone();
+    without.records.retain(|record| !rests(record));
+    price_day_by_spans(&without) != price_day_by_spans(day)
 }
 
 /// The independent program's answer in the library's words. A close that 32 bits cannot hold becomes one that no close equals.

@@ -20,6 +20,8 @@ pub struct Tally {
     bytes: u64,
     /// Accepted sheets by metal.
     metals: [u64; 5],
+    /// Accepted sheets on which a quote from before a window decides an answer.
+    resting: u64,
     /// Refused sheets by number, 1 to 12.
     refused: [u64; 12],
     /// Contracts of accepted sheets by answer.
@@ -56,10 +58,11 @@ impl Tally {
         self.bytes += sheet.len() as u64;
         self.sizes[SIZES.iter().take_while(|size| sheet.len() > **size).count()] += 1;
         match told {
-            Ok((metal, answers)) => {
+            Ok(accepted) => {
                 self.walked += u64::from(walked);
-                self.metals[usize::from(*metal) - 1] += 1;
-                for answer in answers {
+                self.metals[usize::from(accepted.metal) - 1] += 1;
+                self.resting += u64::from(accepted.resting);
+                for answer in &accepted.answers {
                     self.answers[place_of(answer)] += 1;
                 }
             }
@@ -71,19 +74,21 @@ impl Tally {
         self.sheets += other.sheets;
         self.walked += other.walked;
         self.bytes += other.bytes;
+        self.resting += other.resting;
         add_to(&mut self.metals, &other.metals);
         add_to(&mut self.refused, &other.refused);
         add_to(&mut self.answers, &other.answers);
         add_to(&mut self.sizes, &other.sizes);
     }
 
-    /// Every metal, number, answer and size must have been among them.
+    /// Every metal, number, answer and size must have been among them, and a resting quote.
     pub fn has_everything(&self) -> Result<(), String> {
-        let rows: [&[u64]; 4] = [&self.metals, &self.refused, &self.answers, &self.sizes];
+        let resting = [self.resting];
+        let rows: [&[u64]; 5] = [&self.metals, &self.refused, &self.answers, &self.sizes, &resting];
         if rows.iter().all(|row| row.iter().all(|count| *count > 0)) {
             return Ok(());
         }
-        Err("a metal, a number, an answer or a size was not among the sheets".to_string())
+        Err("a metal, a number, an answer, a size or a resting quote was not among the sheets".to_string())
     }
 
     /// All of it in one line.
@@ -92,11 +97,12 @@ impl Tally {
         let numbers = numbers();
         let numbers: Vec<&str> = numbers.iter().map(String::as_str).collect();
         format!(
-            "{} sheets of {} bytes, no difference; accepted {accepted} ({}), {} of them walked; refused by {}; contracts {}; bytes {}",
+            "{} sheets of {} bytes, no difference; accepted {accepted} ({}), {} of them walked, {} decided by a resting quote; refused by {}; contracts {}; bytes {}",
             self.sheets,
             self.bytes,
             named(&METALS, &self.metals),
             self.walked,
+            self.resting,
             named(&numbers, &self.refused),
             named(&ANSWERS, &self.answers),
             named(&SIZE_NAMES, &self.sizes),

@@ -194,7 +194,7 @@ fn accepted_sheets_have_their_answers() {
 
 #[test]
 fn samples_have_their_lists() {
-    for name in ["nickel", "copper", "torn", "no_reference"] {
+    for name in ["nickel", "copper", "torn", "no_reference", "resting"] {
         let list = file(&format!("examples/{name}.list"));
         look_at_list(&file(&format!("examples/{name}.sheet")), &list, name);
     }
