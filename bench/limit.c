@@ -139,8 +139,16 @@ static __attribute__((noinline, cold)) unsigned refusal(Bytes sheet, size_t len,
     }
 }
 
-/* The header and the closes as far as they are good; where wanted, the closes are kept. */
-INLINE struct good opening(Bytes sheet, size_t len, int32_t *kept) {
+enum { NONE = INT32_MIN };
+
+/* What stands at a moment of the day: each instrument's reference, NONE where it has none, and its latest quote, null where it has none. */
+struct standing {
+    int32_t references[INSTRUMENTS];
+    Bytes quotes[INSTRUMENTS];
+};
+
+/* The header and the closes as far as they are good; where wanted, the closes are kept as references. */
+INLINE struct good opening(Bytes sheet, size_t len, struct standing *kept) {
     struct good good = {sheet, 0, 0, -1, 0};
     Bytes end = sheet + len;
     if (UNLIKELY(len < HEADER_BYTES + END_BYTES || head(sheet) != HEADER || !good_header(sheet))) return good;
@@ -150,7 +158,7 @@ INLINE struct good opening(Bytes sheet, size_t len, int32_t *kept) {
         int instrument = good.p[3];
         uint32_t price = big32(good.p + 4);
         if (UNLIKELY(instrument <= good.close || !priced(RANGES[instrument], price))) break;
-        if (kept) kept[instrument] = (int32_t)price;
+        if (kept) kept->references[instrument] = (int32_t)price;
         good.close = instrument;
         good.p += CLOSE_BYTES;
         good.fields++;
@@ -160,9 +168,9 @@ INLINE struct good opening(Bytes sheet, size_t len, int32_t *kept) {
 
 /*
  * The records as far as they are good and stand before a time. Each has an end field behind it, so one comparison keeps every load inside the
- * sheet. Where wanted, each trade's price is kept and its lots are added, whatever the instrument: no branch asks for it.
+ * sheet. Where wanted, each trade's price and each quote are kept and the lots are added, whatever the instrument: no branch asks for it.
  */
-INLINE struct good records(struct good good, Bytes end, uint32_t until, int32_t *kept, struct total *totals) {
+INLINE struct good records(struct good good, Bytes end, uint32_t until, struct standing *kept, struct total *totals) {
     if (end - good.p < TRADE_BYTES + END_BYTES) return good;
     Bytes p = good.p, first = p, last = end - (TRADE_BYTES + END_BYTES);
     uint32_t time = good.time, quotes = 0;
@@ -172,7 +180,7 @@ INLINE struct good records(struct good good, Bytes end, uint32_t until, int32_t 
             uint32_t now = big32(p + 3);
             if (UNLIKELY(!good_trade(p, now, time, until))) break;
             int32_t price = (int32_t)big32(p + 8);
-            if (kept) kept[p[7]] = price;
+            if (kept) kept->references[p[7]] = price;
             if (totals) {
                 int64_t lots = big16(p + 12);
                 totals[p[7]].lots += lots;
@@ -184,6 +192,7 @@ INLINE struct good records(struct good good, Bytes end, uint32_t until, int32_t 
             if (UNLIKELY(kind != QUOTE)) break;
             uint32_t now = big32(p + 3);
             if (UNLIKELY(!good_quote(p, now, time, until))) break;
+            if (kept) kept->quotes[p[7]] = p;
             time = now;
             p += QUOTE_BYTES;
             quotes++;
@@ -247,14 +256,12 @@ uint8_t limit_read(const uint8_t *sheet, size_t len, size_t at, int64_t *values,
     return 0;
 }
 
-enum { NONE = INT32_MIN };
-
-/* A judged day: the part of the sheet inside each window, what was traded in it, and the references at its start. */
+/* A judged day: the part of the sheet inside each window, what was traded in it, and what stands at its start. */
 struct day {
     uint32_t starts[2];
     Bytes from[2], to[2];
     struct total totals[2][INSTRUMENTS];
-    int32_t references[2][INSTRUMENTS];
+    struct standing standing[2];
 };
 
 enum { SPREADS, ANCHOR };
@@ -263,16 +270,16 @@ enum { SPREADS, ANCHOR };
 static unsigned survey(Bytes sheet, size_t len, struct day *day, size_t *at) {
     if (UNLIKELY(len > LONGEST)) return *at = 0, 1;
     Bytes end = sheet + len;
-    int32_t *references = day->references[SPREADS], *later = day->references[ANCHOR];
-    for (int i = 0; i < INSTRUMENTS; i++) references[i] = NONE;
+    struct standing *standing = &day->standing[SPREADS], *later = &day->standing[ANCHOR];
+    for (int i = 0; i < INSTRUMENTS; i++) standing->references[i] = NONE, standing->quotes[i] = NULL;
     memset(day->totals, 0, sizeof day->totals);
-    struct good good = opening(sheet, len, references);
+    struct good good = opening(sheet, len, standing);
     if (UNLIKELY(!good.fields)) return refusal(sheet, len, good, at);
     uint32_t spread = METALS[sheet[3]].spread_start, anchor = spread + WINDOW;
     day->starts[SPREADS] = spread;
     day->starts[ANCHOR] = anchor;
-    good = records(good, end, spread, references, NULL);
-    memcpy(later, references, sizeof day->references[0]);
+    good = records(good, end, spread, standing, NULL);
+    *later = *standing;
     day->from[SPREADS] = good.p;
     good = records(good, end, anchor, later, day->totals[SPREADS]);
     day->to[SPREADS] = day->from[ANCHOR] = good.p;
@@ -288,12 +295,27 @@ struct book {
     int64_t sum;
 };
 
+INLINE void put_sides(struct book *book, Bytes quote) {
+    book->bid = quote[8] & 1 ? (int32_t)big32(quote + 9) : INT32_MIN;
+    book->offer = quote[8] & 2 ? (int32_t)big32(quote + 13) : INT32_MAX;
+}
+
+/* The indicator goes by the book from now on, for so many milliseconds that are left. */
+INLINE void indicate(struct book *book, uint32_t left) {
+    int32_t high = book->reference < book->offer ? book->reference : book->offer;
+    int32_t indicator = high > book->bid ? high : book->bid;
+    book->sum += ((int64_t)indicator - book->indicator) * left;
+    book->indicator = indicator;
+}
+
 /* The indicators of all instruments over a window. A change counts for the milliseconds that are left, so only records are visited. */
 static void walk(const struct day *day, int window, struct book *books) {
     uint32_t until = day->starts[window] + WINDOW;
     for (int i = 0; i < INSTRUMENTS; i++) {
-        int32_t reference = day->references[window][i];
-        books[i] = (struct book){reference, INT32_MIN, INT32_MAX, reference, (int64_t)reference * WINDOW};
+        Bytes quote = day->standing[window].quotes[i];
+        books[i] = (struct book){day->standing[window].references[i], INT32_MIN, INT32_MAX, 0, 0};
+        if (quote) put_sides(&books[i], quote);
+        indicate(&books[i], WINDOW);
     }
     for (Bytes p = day->from[window]; p < day->to[window];) {
         struct book *book = &books[p[7]];
@@ -302,20 +324,16 @@ static void walk(const struct day *day, int window, struct book *books) {
             book->reference = (int32_t)big32(p + 8);
             p += TRADE_BYTES;
         } else {
-            book->bid = p[8] & 1 ? (int32_t)big32(p + 9) : INT32_MIN;
-            book->offer = p[8] & 2 ? (int32_t)big32(p + 13) : INT32_MAX;
+            put_sides(book, p);
             p += QUOTE_BYTES;
         }
-        int32_t high = book->reference < book->offer ? book->reference : book->offer;
-        int32_t indicator = high > book->bid ? high : book->bid;
-        book->sum += ((int64_t)indicator - book->indicator) * left;
-        book->indicator = indicator;
+        indicate(book, left);
     }
 }
 
 /* Is there a price to start from: one before the window, or a trade at its first millisecond? */
 static int has_reference(const struct day *day, int window, int instrument) {
-    if (day->references[window][instrument] != NONE) return 1;
+    if (day->standing[window].references[instrument] != NONE) return 1;
     for (Bytes p = day->from[window]; p < day->to[window] && big32(p + 3) == day->starts[window];) {
         if (p[0] == 3 && p[7] == instrument) return 1;
         p += p[0] == 3 ? TRADE_BYTES : QUOTE_BYTES;

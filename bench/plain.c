@@ -99,10 +99,11 @@ static int64_t spans(void *sheet, int instrument, int *refused) {
         int64_t time = p[0] == 2 || big32(p + 3) < start ? start : big32(p + 3);
         *refused |= time > start && reference == INT32_MIN;
         sum += now * (time - since), since = time;
-        if (p[0] != 4) reference = (int32_t)big32(p[0] == 2 ? p + 4 : p + 8);
-        if (p[0] == 4 && big32(p + 3) >= start) {
+        if (p[0] == 4) {
             bid = p[8] & 1 ? (int32_t)big32(p + 9) : INT32_MIN;
             offer = p[8] & 2 ? (int32_t)big32(p + 13) : INT32_MAX;
+        } else {
+            reference = (int32_t)big32(p[0] == 2 ? p + 4 : p + 8);
         }
         now = bid > reference ? bid : offer < reference ? offer : reference;
     }
