@@ -1,21 +1,21 @@
 -- P4, the worked example of RULES 6: 375 for one minute, 400 for two, 375 for one and 350 for one are 380 on average. Here the sum, 300,000 times that.
 -- G1 and G2: quotes that rest from before the window, over a last trade at 375.
 -- Assumes nothing.
-use Prim.Native.Nat.{ℕ, _*_}
+use Prim.Native.Nat.{ℕ, _+_, _*_}
 use mathlib.Core.Path.{_≡_, refl, sym, ap, _∙_}
 use mathlib.Core.Bool.{true, false}
 use mathlib.Core.List.{List, [], _∷_, _++_}
 use native.Mathlib.Omega.{arith}
 use lib.Dec.{lit≤}
-use lib.IntN.{pos, _*ℤ_}
+use lib.IntN.{ℤ, pos, _*ℤ_}
 use Rattle.field.specs.declared.Field.{Field}
 use Rattle.field.specs.declared.Field.the-variants.{Trade, Quote}
 use Rattle.market.specs.Market.{windowLength}
 use Rattle.market.specs.laws.Rows.{window-length}
 use Rattle.indicator.specs.declared.Indicator.{Indicator}
-use Rattle.indicator.specs.Indicator.{empty, taken, afterFrom, sumFrom, centsAt, twapSum, hasReference}
+use Rattle.indicator.specs.Indicator.{centsOf, empty, valueOf, taken, afterFrom, sumFrom, centsAt, twapSum, hasReference}
 use Rattle.indicator.specs.laws.Sums.{sum-none}
-use Rattle.indicator.specs.laws.Indicator.{Reached, reached-none, reached-more, reached-on, allTaken, whole-window}
+use Rattle.indicator.specs.laws.Indicator.{Rising, Reached, reached-none, reached-more, reached-on, Counted, allTaken, whole-window}
 
 -- the start of Copper's spread window
 abbrev pub start : ℕ
@@ -105,9 +105,9 @@ pub record Resting : Type 0 where
 abbrev pub Holds : Resting → Type 0
 Holds r = twapSum (r .instrument) (r .start) (r .early ++ r .later) ≡ pos windowLength *ℤ pos (r .cents)
 
-abbrev pub AllHold : List Resting → Type 0
-AllHold [] = Unit {0}
-AllHold (r ∷ rs) = Holds r × AllHold rs
+abbrev pub All : (Resting → Type 0) → List Resting → Type 0
+All P [] = Unit {0}
+All P (r ∷ rs) = P r × All P rs
 
 -- of M1-M2 in Copper's spread window
 abbrev spread : List Field → List Field → ℕ → Resting
@@ -131,23 +131,30 @@ resting =
     record { instrument = 0; start = 60300000; early = anchored; later = []; cents = 900100 } ∷  -- 3M's bid rests into the anchor window
     []
 
-pub resting-hold : AllHold resting
+-- the fields stand where the row says, and the state behind the early ones has its indicator
+abbrev Fits : Resting → Type 0
+Fits r = Counted (r .start) (r .early) × (Rising (r .start + windowLength) (r .later) × (centsOf (valueOf (allTaken (r .instrument) empty (r .early))) ≡ pos (r .cents)))
+
+fit-holds : (rs : List Resting) → All Fits rs → All Holds rs
+fit-holds [] h = tt
+fit-holds (r ∷ rs) h =
+    let row = h .0 in
+    (whole-window (r .instrument) (r .start) (r .early) (r .later) (row .0) (row .1 .0) ∙ ap (λ (z : ℤ). pos windowLength *ℤ z) (row .1 .1), fit-holds rs (h .1))
+
+pub resting-hold : All Holds resting
 unfolding taken allTaken
-resting-hold = (
-  whole-window 7 start (noon ∷ traded ∷ []) [] (lit≤ tt, (lit≤ tt, tt)) tt,
+resting-hold = fit-holds resting (
+  ((lit≤ tt, (lit≤ tt, tt)), (tt, refl)),
   (
-    whole-window 7 start (noon ∷ quoted 50000000 1 390 0 ∷ traded ∷ []) [] (lit≤ tt, (lit≤ tt, (lit≤ tt, tt))) tt,
+    ((lit≤ tt, (lit≤ tt, (lit≤ tt, tt))), (tt, refl)),
     (
-      whole-window 7 start (noon ∷ traded ∷ quoted 59999999 0 0 0 ∷ []) [] (lit≤ tt, (lit≤ tt, (lit≤ tt, tt))) tt,
+      ((lit≤ tt, (lit≤ tt, (lit≤ tt, tt))), (tt, refl)),
       (
-        whole-window 7 start (noon ∷ traded ∷ quoted 60000000 1 390 0 ∷ []) [] (lit≤ tt, (lit≤ tt, (lit≤ tt, tt))) tt,
-        (
-          whole-window 7 start (traded ∷ []) (quoted 60300000 1 400 0 ∷ []) (lit≤ tt, tt) (omega (arith, window-length), tt),
-          (whole-window 0 60300000 anchored [] (lit≤ tt, (lit≤ tt, tt)) tt, tt)
-        )
-      )
-    )
-  )
+        ((lit≤ tt, (lit≤ tt, (lit≤ tt, tt))), (tt, refl)),
+        (((lit≤ tt, tt), ((omega (arith, window-length), tt), refl)), (((lit≤ tt, (lit≤ tt, tt)), (tt, refl)), tt)),
+      ),
+    ),
+  ),
 )
 
 -- a resting bid is no reference

@@ -177,8 +177,8 @@ pub whole-window : (i start : ℕ) (early later : List Field) → Counted start 
     → twapSum i start (early ++ later) ≡ pos windowLength *ℤ centsOf (valueOf (allTaken i empty early))
 whole-window i start early later c r =
     sum-const (centsAt i (early ++ later)) start windowLength (centsOf (valueOf (allTaken i empty early))) (λ t l h.
-      ap (λ (s : Indicator). centsOf (valueOf s))
-      (after-append i t empty early later ∙ late i t (start + windowLength) (after i t early) later h r ∙ counted-all i t empty early (counted-later start t early l c)))
+    ap (λ (s : Indicator). centsOf (valueOf s))
+    (after-append i t empty early later ∙ late i t (start + windowLength) (after i t early) later h r ∙ counted-all i t empty early (counted-later start t early l c)))
 
 -- ---- the reference
 
