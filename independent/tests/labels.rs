@@ -105,11 +105,11 @@ fn every_label_has_a_row_that_says_where_it_runs() {
 fn every_row_runs_where_it_says() {
     let occurring = occurring();
     let runs = |label: &str, place: &str| match place {
-        "proved" => label.starts_with('P'),
+        "proved" => label.starts_with(['G', 'P']),
         _ => occurring.iter().any(|(name, labels)| *name == place && labels.contains(label)),
     };
     for (label, places) in rows().into_iter().filter(|(label, _)| !labels_in(label).is_empty()) {
         assert!(places.iter().all(|place| runs(&label, place)), "{label} in {places:?}");
-        assert_eq!(places.contains(&"proved".to_string()), label.starts_with('P'), "{label}");
+        assert_eq!(places.contains(&"proved".to_string()), label.starts_with(['G', 'P']), "{label}");
     }
 }
