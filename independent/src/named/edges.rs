@@ -1,7 +1,8 @@
 //! The windows' edges for every metal, the steps, and the ends of the range of
 //! closes.
 
-use super::{case, copper, copper_until, flat, flat_of, lines, NamedCase, ANCHOR, COPPER, SPREAD};
+use super::{case, copper, copper_until, flat, flat_of, lines, Metal, NamedCase};
+use super::{ANCHOR, COPPER, METALS, SPREAD};
 use crate::draft::{close, ended_sheet, header, trade};
 use crate::field::Field;
 
@@ -17,20 +18,11 @@ pub(super) fn cases() -> Vec<NamedCase> {
     cases
 }
 
-/// Per metal: spread start, anchor start, 3M and M3 of the records below.
-const WINDOWS: [(u8, &str, u32, u32, &str, &str); 5] = [
-    (1, "Nickel", 58_200_000, 58_500_000, "900100", "900115"),
-    (2, "Aluminium", 58_800_000, 59_100_000, "900050", "900065"),
-    (3, "Zinc", 59_400_000, 59_700_000, "900050", "900065"),
-    (4, "Copper", 60_000_000, 60_300_000, "900050", "900065"),
-    (5, "Lead", 60_600_000, 60_900_000, "900050", "900065"),
-];
-
 /// Trades just outside and just inside both windows: 3M is 5 lots at 900,000
 /// and 5 at 900,100, so 900,050 (Nickel's half goes up to 900,100); M3 is that
 /// and 5 lots at 10, 5 at 20, so 15 above.
 fn windows() -> Vec<NamedCase> {
-    let made = |(metal, name, spread, anchor, outright, m3): (u8, &str, u32, u32, &str, &str)| {
+    let made = |(metal, name, spread, anchor, outright): Metal| {
         let records = [
             trade(spread - 1, 1, 1_000, 9),
             trade(spread, 1, 10, 5),
@@ -42,13 +34,13 @@ fn windows() -> Vec<NamedCase> {
             trade(anchor + 300_000, 0, 1_000_000, 9),
         ];
         let first = format!("VWAP {outright} 10");
-        let second = format!("VWAP {m3} 10");
-        let rest = format!("TWAP {m3} 0");
+        let second = format!("VWAP {} 10", outright + 15);
+        let rest = format!("TWAP {} 0", outright + 15);
         let list = lines(name, [&first, &second, &rest, &rest, &rest, &rest]);
         let title = format!("the edges of {name}'s windows");
         case(&title, flat_of(metal, 0, &records), &list)
     };
-    WINDOWS.into_iter().map(made).collect()
+    METALS.into_iter().map(made).collect()
 }
 
 /// P11 and P12: a Nickel spread trade at the last millisecond and behind it.

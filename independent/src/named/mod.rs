@@ -29,6 +29,18 @@ const SPREAD: u32 = 60_000_000;
 const ANCHOR: u32 = 60_300_000;
 const COPPER: u8 = 4;
 
+/// A metal's number and name, its spread start and anchor start, and 900,050
+/// rounded to its 3M step: Nickel's half of 100 goes up.
+type Metal = (u8, &'static str, u32, u32, u32);
+
+const METALS: [Metal; 5] = [
+    (1, "Nickel", 58_200_000, 58_500_000, 900_100),
+    (2, "Aluminium", 58_800_000, 59_100_000, 900_050),
+    (3, "Zinc", 59_400_000, 59_700_000, 900_050),
+    (4, "Copper", 60_000_000, 60_300_000, 900_050),
+    (5, "Lead", 60_600_000, 60_900_000, 900_050),
+];
+
 fn case(name: &str, sheet: Vec<u8>, list: &str) -> NamedCase {
     NamedCase { name: name.to_string(), sheet, list: list.to_string() }
 }

@@ -3,7 +3,7 @@
 
 use super::pricing::{all_at, m3, m3_list, FLAT, HALF};
 use super::{case, copper, copper_until, flat, flat_of, flat_without, lines, nothing};
-use super::{NamedCase, ANCHOR, COPPER, SPREAD};
+use super::{Metal, NamedCase, ANCHOR, COPPER, METALS, SPREAD};
 use crate::draft::{close, ended_sheet, header, quote, trade};
 use crate::field::{Field, BID, OFFER};
 
@@ -276,20 +276,11 @@ fn outright_milliseconds() -> Vec<NamedCase> {
     ]
 }
 
-/// Per metal: both starts, 3M and M3 of the records below.
-const METALS: [(u8, &str, u32, u32, &str, &str); 5] = [
-    (1, "Nickel", 58_200_000, 58_500_000, "900100", "900111"),
-    (2, "Aluminium", 58_800_000, 59_100_000, "900050", "900061"),
-    (3, "Zinc", 59_400_000, 59_700_000, "900050", "900061"),
-    (4, "Copper", 60_000_000, 60_300_000, "900050", "900061"),
-    (5, "Lead", 60_600_000, 60_900_000, "900050", "900061"),
-];
-
 /// What rests is there for the first millisecond alone. 3M: 15,000,000 above
 /// 900,000 are 50 cents, on the half of Nickel's 100. M3: 300,000 and 299,999
 /// times 10, over 300,000, are 10.99997 on top, so 11.
 fn every_metal() -> Vec<NamedCase> {
-    let made = |(metal, name, spread, anchor, outright, m3): (u8, &str, u32, u32, &str, &str)| {
+    let made = |(metal, name, spread, anchor, outright): Metal| {
         let records = [
             bid(spread - 1, 300_000),
             bid(spread + 1, 10),
@@ -297,7 +288,7 @@ fn every_metal() -> Vec<NamedCase> {
             empty_3m(anchor + 1),
         ];
         let first = format!("TWAP {outright} 0");
-        let rest = format!("TWAP {m3} 0");
+        let rest = format!("TWAP {} 0", outright + 11);
         let list = lines(name, [&first, &rest, &rest, &rest, &rest, &rest]);
         case(&format!("G1 bids that rest into {name}'s windows"), flat_of(metal, 0, &records), &list)
     };
