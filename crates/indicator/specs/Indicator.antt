@@ -98,7 +98,8 @@ unfoldable pub afterFrom : ℕ → ℕ → Indicator → List Field → Indicato
 afterFrom i t s [] = s
 afterFrom i t s (f ∷ fs) = afterFrom i t (cond (leb (stamp f) t) (taken i s f) s) fs
 
--- RULES 7: the same from the day's start on, with no reference and an empty book. Every trade and quote of the day counts, whatever its time
+-- RULES 7: the state at the millisecond t. The day begins with no reference and an empty book, and each trade and quote up to t counts, in the window
+-- or before it
 abbrev pub after : ℕ → ℕ → List Field → Indicator
 after i t fs = afterFrom i t empty fs
 
