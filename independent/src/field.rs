@@ -236,47 +236,42 @@ impl<'a> Walker<'a> {
     }
 }
 
-/// The body's bytes for these values, and the tag.
-fn tag_and_body(field: &Field) -> (u8, Vec<u8>) {
-    let mut body = Vec::new();
-    let tag = match field {
+/// Puts a field behind the bytes, whether or not its values are in range.
+pub fn append(bytes: &mut Vec<u8>, field: &Field) {
+    match field {
         Field::Header(header) => {
-            body.push(header.metal);
-            body.extend(header.marks.to_be_bytes());
-            1
+            bytes.extend([1, 0, 3, header.metal]);
+            bytes.extend(header.marks.to_be_bytes());
         }
         Field::PreviousClose(close) => {
-            body.push(close.instrument);
-            body.extend(close.price.to_be_bytes());
-            2
+            bytes.extend([2, 0, 5, close.instrument]);
+            bytes.extend(close.price.to_be_bytes());
         }
         Field::Trade(trade) => {
-            body.extend(trade.time.to_be_bytes());
-            body.push(trade.instrument);
-            body.extend(trade.price.to_be_bytes());
-            body.extend(trade.lots.to_be_bytes());
-            3
+            bytes.extend([3, 0, 11]);
+            bytes.extend(trade.time.to_be_bytes());
+            bytes.push(trade.instrument);
+            bytes.extend(trade.price.to_be_bytes());
+            bytes.extend(trade.lots.to_be_bytes());
         }
         Field::Quote(quote) => {
-            body.extend(quote.time.to_be_bytes());
-            body.extend([quote.instrument, quote.sides]);
-            body.extend(quote.bid.to_be_bytes());
-            body.extend(quote.offer.to_be_bytes());
-            4
+            bytes.extend([4, 0, 14]);
+            bytes.extend(quote.time.to_be_bytes());
+            bytes.extend([quote.instrument, quote.sides]);
+            bytes.extend(quote.bid.to_be_bytes());
+            bytes.extend(quote.offer.to_be_bytes());
         }
         Field::End(end) => {
-            body.extend(end.count.to_be_bytes());
-            5
+            bytes.extend([5, 0, 4]);
+            bytes.extend(end.count.to_be_bytes());
         }
-    };
-    (tag, body)
+    }
 }
 
 /// The bytes of a field with these values, whether or not they are in range.
 pub fn encode(field: &Field) -> Vec<u8> {
-    let (tag, body) = tag_and_body(field);
-    let mut bytes = vec![tag, 0, body.len() as u8];
-    bytes.extend(body);
+    let mut bytes = Vec::new();
+    append(&mut bytes, field);
     bytes
 }
 

@@ -9,6 +9,7 @@
 //! * [`indicator`] the indicator and its sum over a window
 //! * [`pricing`]   the six contracts
 //! * [`list`]      the closing list as text
+//! * [`tape`]      a sheet as lines of text, and back
 //! * [`draft`]     sheets put together by hand, without any test of values
 //! * [`random`]    the random numbers of the generator
 //! * [`generator`] random sheets, accepted and damaged
@@ -34,8 +35,10 @@ pub mod sheet;
 pub mod sheet_cases;
 pub mod stream;
 pub mod tables;
+pub mod tape;
 
 pub use field::{read_field, write_field, Field, Refusal, Walker};
 pub use list::closing_list;
 pub use pricing::{price_day, Answer, Method};
 pub use sheet::{judge_sheet, Day};
+pub use tape::{sheet_to_tape, tape_to_sheet, TAPE_LIMIT};

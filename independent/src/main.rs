@@ -2,6 +2,7 @@
 
 use independent::field_cases::field_cases;
 use independent::generator::sized::sized_sheet;
+use independent::generator::tapes::{sized_tape, tape, TapeKind};
 use independent::holds::{all_hold, shift_holds, turn_holds, Law};
 use independent::laws::Pair;
 use independent::list::closing_list;
@@ -9,9 +10,11 @@ use independent::named::named_cases;
 use independent::random::Random;
 use independent::sheet_cases::sheet_cases;
 use independent::stream;
-use independent::tables::LIST_LIMIT;
+use independent::tables::{LIST_LIMIT, SHEET_LIMIT};
+use independent::{sheet_to_tape, tape_to_sheet, Refusal, TAPE_LIMIT};
 use std::io::{self, Read, Write};
 use std::process::ExitCode;
+use std::str::FromStr;
 
 const USAGE: &str = "usage:
   independent list < SHEET              the closing list
@@ -32,6 +35,11 @@ const USAGE: &str = "usage:
   independent sheet-cases < TEXT        what is said of sheets written as digits
   independent field-cases < SHEET       what is said of single fields, and of
                                         walks over the Nickel sheet
+  independent tape-to-sheet < TEXT      the sheet of a text tape; what is refused
+                                        is told on standard error alone
+  independent sheet-to-tape < SHEET     the text tape of a sheet, likewise
+  independent tapes SEED COUNT KIND     a stream of texts, canonical or damaged
+  independent sized-tape SEED BYTES     one accepted text of about so many bytes
 ";
 
 fn main() -> ExitCode {
@@ -52,18 +60,23 @@ fn main() -> ExitCode {
 
 fn run(words: &[&str]) -> Result<Vec<u8>, String> {
     match words {
-        ["list"] => Ok(closing_list(&read_sheet()?)),
+        ["list"] => Ok(closing_list(&read_up_to(LIST_LIMIT)?)),
         ["names"] => Ok(names().into_bytes()),
         ["sheet-cases"] => said_of_text(),
-        ["field-cases"] => Ok(field_cases(&read_sheet()?).into_bytes()),
-        [command, seed, count] => {
-            let seed = seed.parse().map_err(|_| USAGE.to_string())?;
-            let count = count.parse().map_err(|_| USAGE.to_string())?;
-            make(command, seed, count)
-        }
+        ["field-cases"] => Ok(field_cases(&read_up_to(LIST_LIMIT)?).into_bytes()),
+        ["tape-to-sheet"] => rewritten(TAPE_LIMIT, |text| tape_to_sheet(text, SHEET_LIMIT)),
+        ["sheet-to-tape"] => rewritten(SHEET_LIMIT, |sheet| sheet_to_tape(sheet, TAPE_LIMIT)),
+        ["tapes", seed, count, "canonical"] => tapes(number(seed)?, number(count)?, TapeKind::Canonical),
+        ["tapes", seed, count, "damaged"] => tapes(number(seed)?, number(count)?, TapeKind::Damaged),
+        [command, seed, count] => make(command, number(seed)?, number(count)?),
         [command] => read_and_answer(command),
         _ => Err(USAGE.to_string()),
     }
+}
+
+/// A number on the command line.
+fn number<T: FromStr>(word: &str) -> Result<T, String> {
+    word.parse().map_err(|_| USAGE.to_string())
 }
 
 /// The commands that make sheets from a seed, and those that look at answers to them.
@@ -79,8 +92,31 @@ fn make(command: &str, seed: u64, count: usize) -> Result<Vec<u8>, String> {
         "sized" => {
             sized_sheet(&mut Random::new(seed), count).ok_or_else(|| format!("no fields fill {count} bytes"))
         }
+        "sized-tape" => Ok(sized_tape(seed, count)),
         _ => Err(USAGE.to_string()),
     }
+}
+
+/// The stream of so many texts.
+fn tapes(seed: u64, count: u64, kind: TapeKind) -> Result<Vec<u8>, String> {
+    let texts: Vec<Vec<u8>> = (0..count).map(|number| tape(seed, number, kind)).collect();
+    Ok(stream::stream_of_cases(&texts))
+}
+
+/// Standard input as a sheet or as a text; nothing where it is too
+/// long or refused, which standard error tells.
+fn rewritten(limit: usize, turn: fn(&[u8]) -> Result<Vec<u8>, Refusal>) -> Result<Vec<u8>, String> {
+    let input = read_up_to(limit)?;
+    let told = if input.len() > limit {
+        "too long".to_string()
+    } else {
+        match turn(&input) {
+            Ok(output) => return Ok(output),
+            Err((number, place)) => format!("refused {number} {place}"),
+        }
+    };
+    writeln!(io::stderr(), "{told}").map_err(|error| error.to_string())?;
+    Ok(Vec::new())
 }
 
 /// The answers on standard input under a law, by what each pair was changed by.
@@ -117,13 +153,12 @@ fn said_of_text() -> Result<Vec<u8>, String> {
     Ok(said.into_bytes())
 }
 
-/// Standard input up to one byte more than the list's limit.
-fn read_sheet() -> Result<Vec<u8>, String> {
-    let mut sheet = Vec::new();
-    let limit = LIST_LIMIT as u64 + 1;
-    let read = io::stdin().take(limit).read_to_end(&mut sheet);
+/// Standard input up to one byte more than the limit.
+fn read_up_to(limit: usize) -> Result<Vec<u8>, String> {
+    let mut input = Vec::new();
+    let read = io::stdin().take(limit as u64 + 1).read_to_end(&mut input);
     read.map_err(|error| error.to_string())?;
-    Ok(sheet)
+    Ok(input)
 }
 
 fn names() -> String {

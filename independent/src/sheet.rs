@@ -55,13 +55,13 @@ impl Day {
 
 /// What has been met of a sheet so far.
 #[derive(Default)]
-struct Met {
+pub(crate) struct Met {
     header: Option<Header>,
     last_close: Option<u8>,
     last_time: Option<u32>,
     previous_closes: [Option<i32>; 12],
     records: Vec<Record>,
-    fields: usize,
+    pub(crate) fields: usize,
 }
 
 impl Met {
@@ -82,8 +82,16 @@ impl Met {
         }
     }
 
+    /// A field that is the next one: 5 for its place, then 6 to 11 for its values.
+    pub(crate) fn judge(&self, field: &Field) -> Result<(), u8> {
+        if !self.has_place_for(field) {
+            return Err(5);
+        }
+        judge_values(field, self.last_time.unwrap_or(0))
+    }
+
     /// Enters a field that stands in its place and has good values.
-    fn enter(&mut self, field: &Field) {
+    pub(crate) fn enter(&mut self, field: &Field) {
         self.fields += 1;
         match field {
             Field::Header(header) => self.header = Some(*header),
@@ -119,10 +127,7 @@ impl Met {
 /// One field judged in its sheet: 2, 3, 4, 2, then 5, then 6 to 12.
 fn judge_field(sheet: &[u8], at: usize, met: &Met) -> Result<(Field, usize), u8> {
     let (field, next) = take_field(sheet, at)?;
-    if !met.has_place_for(&field) {
-        return Err(5);
-    }
-    judge_values(&field, met.last_time.unwrap_or(0))?;
+    met.judge(&field)?;
     match field {
         Field::End(end) if end.count as usize != met.fields => Err(12),
         _ => Ok((field, next)),

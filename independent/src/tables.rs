@@ -98,6 +98,11 @@ pub const LEGS: [(usize, usize); 12] = [
     (CASH, M1),
 ];
 
+/// The names of the instruments by number: a spread's is that of its legs.
+pub const INSTRUMENT_NAMES: [&str; 12] = [
+    "3M", "M3-3M", "M2-3M", "M2-M3", "M2-M4", "M3-M4", "3M-M4", "M1-M2", "M1-M3", "M1-3M", "M1-M4", "Cash-M1",
+];
+
 /// Start of the window an instrument uses.
 pub fn window_start(metal: &Metal, instrument: u8) -> u32 {
     if instrument == 0 {
@@ -110,4 +115,17 @@ pub fn window_start(metal: &Metal, instrument: u8) -> u32 {
 /// Is the time inside the window that starts at `start`?
 pub fn in_window(start: u32, time: u32) -> bool {
     time >= start && time - start < WINDOW
+}
+
+#[cfg(test)]
+mod tests {
+    use super::{CONTRACTS, INSTRUMENT_NAMES, LEGS};
+
+    #[test]
+    fn a_spread_has_the_names_of_its_legs() {
+        assert_eq!(INSTRUMENT_NAMES[0], CONTRACTS[0].name);
+        for (name, (a, b)) in INSTRUMENT_NAMES.iter().zip(LEGS).skip(1) {
+            assert_eq!(*name, format!("{}-{}", CONTRACTS[a].name, CONTRACTS[b].name));
+        }
+    }
 }

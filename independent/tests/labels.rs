@@ -1,6 +1,7 @@
 //! Every label that a case has in front of it has a row in docs/CASES.md, and
 //! the row says where the case runs.
 
+use independent::named::tapes::{large_tapes, large_untapes, named_tapes, named_untapes};
 use independent::named::{large_cases, named_cases, NamedCase};
 use std::collections::{HashMap, HashSet};
 use std::fs;
@@ -25,7 +26,7 @@ fn rows() -> HashMap<String, Vec<String>> {
 
 /// Is this a label: a letter of the page and a number, or F-8?
 fn is_label(word: &str) -> bool {
-    let number = word.strip_prefix(['A', 'B', 'C', 'D', 'E', 'F', 'G', 'P', 'R']);
+    let number = word.strip_prefix(['A', 'B', 'C', 'D', 'E', 'F', 'G', 'H', 'P', 'R']);
     let number = number.map(|number| number.strip_prefix('-').unwrap_or(number));
     number.is_some_and(|number| !number.is_empty() && number.bytes().all(|byte| byte.is_ascii_digit()))
 }
@@ -62,6 +63,11 @@ fn labels_of_names(cases: &[NamedCase]) -> HashSet<String> {
     cases.iter().flat_map(|case| labels_in(&case.name)).collect()
 }
 
+fn labels_of_tapes() -> HashSet<String> {
+    let cases = [named_tapes(), named_untapes(), large_tapes(), large_untapes()];
+    cases.iter().flatten().flat_map(|case| labels_in(&case.name)).collect()
+}
+
 fn labels_of_edges() -> HashSet<String> {
     let tables = ["answers", "fields", "heads", "sheets"];
     tables.iter().flat_map(|table| comments(&format!("hosts/edges/{table}.txt"))).collect()
@@ -78,13 +84,14 @@ fn labels_of_tests() -> HashSet<String> {
 }
 
 /// Where labels occur, and which.
-fn occurring() -> [(&'static str, HashSet<String>); 6] {
+fn occurring() -> [(&'static str, HashSet<String>); 7] {
     [
         ("cases", labels_of_names(&named_cases())),
         ("compare", labels_of_names(&large_cases())),
         ("sheet_cases", comments("crates/sheet_cases/stdout")),
         ("field_cases", comments("crates/field_cases/stdout")),
         ("edges", labels_of_edges()),
+        ("tapes", labels_of_tapes()),
         ("tests", labels_of_tests()),
     ]
 }

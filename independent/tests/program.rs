@@ -1,5 +1,7 @@
 //! The commands as a user runs them.
 
+use independent::generator::tapes::{sized_tape, tape, TapeKind};
+use independent::named::tapes::NICKEL_TAPE;
 use independent::named::{nickel_sheet, NICKEL_LIST};
 use independent::stream::{cases, shifted, stream_of_cases, stream_of_pairs, turned};
 use std::io::Write;
@@ -105,9 +107,40 @@ fn the_commands_write_what_the_library_makes() {
     assert_eq!(printed(&["shifts", "3", "20"], &[]).lines().count(), 20);
 }
 
+/// What a command writes to both outputs; it never fails.
+fn outputs(words: &[&str], input: &[u8]) -> (Vec<u8>, String) {
+    let output = run(words, &[input]);
+    assert!(output.status.success());
+    (output.stdout, String::from_utf8(output.stderr).unwrap())
+}
+
+#[test]
+fn texts_and_sheets_are_turned() {
+    let (to_sheet, to_tape) = (&["tape-to-sheet"][..], &["sheet-to-tape"][..]);
+    let told = |text: &str| (Vec::new(), text.to_string());
+    assert_eq!(outputs(to_sheet, NICKEL_TAPE.as_bytes()), (nickel_sheet(), String::new()));
+    assert_eq!(outputs(to_tape, &nickel_sheet()), (NICKEL_TAPE.as_bytes().to_vec(), String::new()));
+    assert_eq!(outputs(to_sheet, b""), told("refused 5 1\n"));
+    assert_eq!(outputs(to_sheet, b"METAL,Tin,0\n"), told("refused 17 1\n"));
+    assert_eq!(outputs(to_tape, &nickel_sheet()[..129]), told("refused 2 123\n"));
+    assert_eq!(outputs(to_sheet, &[b'7'; 3_145_728]), told("refused 17 1\n"));
+    assert_eq!(outputs(to_sheet, &[b'7'; 3_145_729]), told("too long\n"));
+    assert_eq!(outputs(to_tape, &[0; 1_048_576]), told("refused 3 0\n"));
+    assert_eq!(outputs(to_tape, &[0; 1_048_577]), told("too long\n"));
+}
+
+#[test]
+fn texts_are_written_as_the_library_makes_them() {
+    for (word, kind) in [("canonical", TapeKind::Canonical), ("damaged", TapeKind::Damaged)] {
+        let texts: Vec<Vec<u8>> = (0..20).map(|number| tape(3, number, kind)).collect();
+        assert_eq!(run(&["tapes", "3", "20", word], &[]).stdout, stream_of_cases(&texts));
+    }
+    assert_eq!(run(&["sized-tape", "3", "5000"], &[]).stdout, sized_tape(3, 5_000));
+}
+
 #[test]
 fn a_wrong_command_is_told_so() {
-    for words in [&["price"][..], &[], &["cases", "x", "1"], &["cases", "1"]] {
+    for words in [&["price"][..], &[], &["cases", "x", "1"], &["cases", "1"], &["tapes", "1", "2", "new"]] {
         let output = run(words, &[]);
         assert!(!output.status.success() && !output.stderr.is_empty());
     }

@@ -5,6 +5,7 @@ pub mod disturb;
 pub mod fault;
 pub mod scene;
 pub mod sized;
+pub mod tapes;
 pub mod values;
 
 use crate::draft::{ended, sheet_of};

@@ -10,6 +10,7 @@ mod papers;
 mod pricing;
 mod resting;
 mod signs;
+pub mod tapes;
 
 use crate::draft::{close, ended_sheet, header, quote, sheet_of, trade};
 use crate::field::Field;
