@@ -1,15 +1,18 @@
 /*
- * Bliskoru for C and C++: a day sheet's closing list, its judgement and its six answers, and single fields read and written.
+ * Bliskoru for C and C++: a day sheet's closing list, its judgement and its six answers, single fields read and written, and a text tape turned
+ * into a sheet and back.
  *
  * Link with target/staticlib/libbliskoru.a, which `rt staticlib bliskoru` writes. It needs memcpy and memset and nothing else.
- * docs/SHEET.md has the numbers, ranges and layouts, docs/RULES.md the prices, docs/HOSTS.md how to embed this.
+ * docs/SHEET.md has the numbers, ranges and layouts, docs/TAPE.md the lines of a text tape, docs/RULES.md the prices, docs/HOSTS.md how to embed
+ * this.
  *
  * For every function:
  *  - It keeps nothing between calls, takes no memory of its own but the stack, and may be called from any number of threads at once.
- *  - No pointer may be null, even where the length behind it is 0: an empty sheet or buffer is any pointer that is not null, with length 0.
- *  - What is lent to be written (out, at, answers, values, next, buffer) must not overlap with anything else that is lent to the same call,
- *    and has its type's alignment.
- *  - What is not said to be written stays as it was, byte for byte. A sheet is never written.
+ *  - No pointer may be null, even where the length behind it is 0: an empty sheet, tape or buffer is any pointer that is not null, with
+ *    length 0.
+ *  - What is lent to be written (every pointer without const: out, at, answers, values, next, buffer, length, and the sheet or the tape that a
+ *    tape or a sheet is turned into) must not overlap with anything else that is lent to the same call, and has its type's alignment.
+ *  - What is not said to be written stays as it was, byte for byte. What is lent as const is never written.
  *
  * No prover checks these declarations against the proved source. hosts/rust/tests/declarations.rs compares their texts with the source's, and
  * hosts/c/edges.c calls each function at its edges.
@@ -27,11 +30,11 @@ extern "C" {
 /* What a function says: yes, or the refusal's number (docs/SHEET.md, section 4). */
 enum bliskoru_number {
     BLISKORU_YES = 0,
-    BLISKORU_SHEET_TOO_LONG = 1,      /* more than 1,048,576 bytes */
+    BLISKORU_SHEET_TOO_LONG = 1,      /* a sheet of more than 1,048,576 bytes, or a tape of which such a one would be made */
     BLISKORU_BYTES_MISSING = 2,       /* bytes of a field are missing, or the end field is */
     BLISKORU_TAG = 3,                 /* no tag 1 to 5 */
     BLISKORU_LENGTH = 4,              /* another length than the tag has */
-    BLISKORU_OUT_OF_PLACE = 5,        /* a field out of its place, or bytes behind the end field */
+    BLISKORU_OUT_OF_PLACE = 5,        /* a field or line out of its place, bytes behind the end field, or a tape without a line */
     BLISKORU_METAL_OR_MARKS = 6,      /* no metal 1 to 5, or a mark that no spread has */
     BLISKORU_INSTRUMENT = 7,          /* instrument above 11 */
     BLISKORU_TIME = 8,                /* time above 86,399,999, or (in a whole sheet) one that falls */
@@ -42,7 +45,8 @@ enum bliskoru_number {
     BLISKORU_NO_REFERENCE = 13,       /* contract: below 5 lots, and no reference at the window's first millisecond */
     BLISKORU_CLOSE_OUT_OF_RANGE = 14, /* contract: no close of 1 to 99,999,999 cents after rounding */
     BLISKORU_NOT_REACHED = 15,        /* contract: one before it was refused */
-    BLISKORU_DOES_NOT_FIT = 16        /* writer: no room for the field at that place */
+    BLISKORU_DOES_NOT_FIT = 16,       /* writer: no room for the field at that place; tape: no room for the sheet or the text */
+    BLISKORU_LINE = 17                /* tape: a line that is malformed, or names what there is not */
 };
 
 /* How a contract was priced: the first number of its row. A refused contract has 13, 14 or 15 there. */
@@ -77,6 +81,7 @@ enum bliskoru_side {
 };
 
 #define BLISKORU_LONGEST_SHEET 1048576  /* bytes; a longer sheet is refused with 1 */
+#define BLISKORU_LONGEST_TAPE 3145728   /* bytes; no accepted sheet has a longer text */
 #define BLISKORU_LONGEST_LISTED 65536   /* bytes; the list of a longer sheet is the line `too long` */
 #define BLISKORU_LIST_ROOM 512          /* bytes; no list is longer */
 #define BLISKORU_ANSWERS 18             /* six rows of three numbers */
@@ -157,6 +162,33 @@ uint8_t bliskoru_write_quote(uint8_t *buffer, size_t buffer_len, size_t at, uint
 
 /* 7 bytes; 16. count: of the fields before it, the header included. */
 uint8_t bliskoru_write_end(uint8_t *buffer, size_t buffer_len, size_t at, uint32_t count, size_t *next);
+
+/*
+ * The sheet of a text tape.
+ *   tape, tape_len    the text: METAL, PREV, TRADE and QUOTE lines, a line feed after each and no zero byte behind them; of any length
+ *   sheet, sheet_len  where the sheet goes; BLISKORU_LONGEST_SHEET bytes are always enough, and so are twice tape_len
+ *   length            the sheet's length
+ *   at                the refusal's line
+ * Yes: 0. The sheet stands at the start of sheet, with its right end field, and *length is its length. The bytes of sheet behind it and *at stay
+ *      as they were.
+ * No:  5, 6, 8 to 11 or 17. *at is the number of the first bad line, counted from 1. A tape without a line: 5 at line 1.
+ *      Where no line is bad, 1 for a sheet of more than 1,048,576 bytes, then 16 for one of more than sheet_len; *at is 0.
+ *      sheet and *length stay as they were.
+ */
+uint8_t bliskoru_tape_to_sheet(const uint8_t *tape, size_t tape_len, uint8_t *sheet, size_t sheet_len, size_t *length, size_t *at);
+
+/*
+ * The text tape of a sheet. Turned into a sheet again it is that sheet.
+ *   sheet, sheet_len  the sheet
+ *   tape, tape_len    where the text goes; BLISKORU_LONGEST_TAPE bytes are always enough, and so are three times sheet_len
+ *   length            the text's length
+ *   at                the refusal's byte
+ * Yes: 0. The text stands at the start of tape, with a line feed after every line and no zero byte behind them, and *length is its length. The
+ *      bytes of tape behind it and *at stay as they were.
+ * No:  1 to 12, as bliskoru_judge says it; *at is the byte. Then 16 for a text of more than tape_len bytes; *at is 0.
+ *      tape and *length stay as they were.
+ */
+uint8_t bliskoru_sheet_to_tape(const uint8_t *sheet, size_t sheet_len, uint8_t *tape, size_t tape_len, size_t *length, size_t *at);
 
 #ifdef __cplusplus
 }

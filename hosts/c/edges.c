@@ -1,6 +1,6 @@
 /*
  * Every function of bliskoru.h at its edges: each number that it can give, with all that was lent compared byte for byte behind the call.
- * Usage: edges FOLDER, where FOLDER is the repository. The cases of hosts/edges are its table; what takes long sheets stands here.
+ * Usage: edges FOLDER, where FOLDER is the repository. The cases of hosts/edges are its tables; what takes long sheets or texts stands here.
  * It compiles as C99 and as C++.
  */
 #include <stdio.h>
@@ -23,6 +23,8 @@ struct lent {
     uint64_t guard_3;
     size_t place;
     uint64_t guard_4;
+    size_t length;
+    uint64_t guard_5;
 };
 
 /* A line of a table: numbers, then bytes. */
@@ -30,6 +32,15 @@ struct row {
     uint64_t numbers[BLISKORU_ANSWERS]; /* a negative one as its two's complement */
     uint8_t bytes[ROOM];
     size_t length;
+    char text[2 * ROOM];
+};
+
+/* A line of the table of tapes: number and line of a refusal, or zeros; the text; where it is accepted, its sheet. */
+struct tape_row {
+    uint8_t number;
+    size_t line;
+    uint8_t tape[ROOM], sheet[ROOM];
+    size_t tape_len, sheet_len;
     char text[2 * ROOM];
 };
 
@@ -123,14 +134,162 @@ static void each_row(const char *folder, const char *name, unsigned long least, 
     expect(rows >= least, "the table has its lines", name);
 }
 
-/* A copy of exactly so many bytes in memory of its own, so that a memory checker sees a step over its end. Never null. */
+/* The byte that a character or an escape of a quoted text stands for; the text is moved behind it. */
+static uint8_t unescaped(const char **text)
+{
+    const char *at = *text;
+    if (at[0] != '\\') {
+        *text += 1;
+        return (uint8_t)at[0];
+    }
+    *text += at[1] == 'x' ? 4 : 2;
+    switch (at[1]) {
+    case 'n':
+        return '\n';
+    case 'r':
+        return '\r';
+    case 't':
+        return '\t';
+    default:
+        return (uint8_t)(digit_of(at[2]) << 4 | digit_of(at[3]));
+    }
+}
+
+/* The next line of the table of tapes that is no comment; 0 at the table's end. */
+static int next_tape(FILE *table, struct tape_row *row)
+{
+    while (fgets(row->text, sizeof row->text, table) != NULL) {
+        const char *text = strchr(row->text, '"');
+        char *rest;
+        row->text[strcspn(row->text, "\n")] = '\0';
+        if (row->text[0] == '#' || text == NULL)
+            continue;
+        row->number = (uint8_t)strtoul(row->text, &rest, 10);
+        row->line = strtoul(rest, NULL, 10);
+        row->tape_len = 0;
+        for (text++; *text != '"';)
+            row->tape[row->tape_len++] = unescaped(&text);
+        row->sheet_len = bytes_of(text, row->sheet);
+        return 1;
+    }
+    return 0;
+}
+
+/* Memory of exactly so many bytes. Never null. */
+static uint8_t *memory(size_t length)
+{
+    uint8_t *bytes = (uint8_t *)malloc(length == 0 ? 1 : length);
+    if (bytes == NULL)
+        exit(2);
+    return bytes;
+}
+
+/* A copy of exactly so many bytes in memory of its own, so that a memory checker sees a step over its end. */
 static uint8_t *copy_of(const uint8_t *bytes, size_t length)
 {
-    uint8_t *copy = (uint8_t *)malloc(length == 0 ? 1 : length);
-    if (copy == NULL)
-        exit(2);
+    uint8_t *copy = memory(length);
     memcpy(copy, bytes, length);
     return copy;
+}
+
+/* A filled buffer of so many bytes between its guards. */
+static uint8_t *filled(size_t room)
+{
+    uint8_t *buffer = memory(GUARD + room + GUARD);
+    memset(buffer, FILL, GUARD + room + GUARD);
+    return buffer;
+}
+
+/* ---- tapes */
+
+/* One of the two functions that turn a tape into a sheet and a sheet into a tape. */
+typedef uint8_t turning(const uint8_t *, size_t, uint8_t *, size_t, size_t *, size_t *);
+
+/* What it has to say: a refusal at a place, or 0 and the bytes that then stand in the buffer. */
+struct turned {
+    uint8_t number;
+    size_t place;
+    const uint8_t *bytes;
+    size_t length;
+};
+
+static struct turned refused_at(uint8_t number, size_t place)
+{
+    struct turned told = {number, place, NULL, 0};
+    return told;
+}
+
+static struct turned turned_into(const uint8_t *bytes, size_t length)
+{
+    struct turned told = {BLISKORU_YES, 0, bytes, length};
+    return told;
+}
+
+/* Turning into a buffer of `room` bytes: the refusal, else 16 at place 0 where it doesn't fit, else the bytes at its start and no other. */
+static void look_at_turning(turning *turn, const uint8_t *bytes, size_t length, struct turned told, size_t room, const char *text)
+{
+    struct lent got, wanted;
+    uint8_t *given = copy_of(bytes, length), *buffer = filled(room), *behind = filled(room);
+    fill(&got);
+    fill(&wanted);
+    if (told.number == BLISKORU_YES && told.length > room)
+        told = refused_at(BLISKORU_DOES_NOT_FIT, 0);
+    if (told.number == BLISKORU_YES) {
+        memcpy(behind + GUARD, told.bytes, told.length);
+        wanted.length = told.length;
+    } else {
+        wanted.place = told.place;
+    }
+    expect(turn(given, length, buffer + GUARD, room, &got.length, &got.place) == told.number, "the turning's number", text);
+    expect_same(&got, &wanted, sizeof got, "what the turning was lent", text);
+    expect_same(buffer, behind, GUARD + room + GUARD, "the turning's buffer", text);
+    expect_same(given, bytes, length, "what is turned", text);
+    free(given);
+    free(buffer);
+    free(behind);
+}
+
+/* Room that is ample, exact, one byte too little, and none. */
+static void look_at_rooms(turning *turn, const uint8_t *bytes, size_t length, struct turned told, const char *text)
+{
+    look_at_turning(turn, bytes, length, told, told.length + 100, text);
+    look_at_turning(turn, bytes, length, told, told.length, text);
+    if (told.length > 0)
+        look_at_turning(turn, bytes, length, told, told.length - 1, text);
+    look_at_turning(turn, bytes, length, told, 0, text);
+}
+
+/* An accepted text and its sheet, each turned into the other. */
+static void look_at_pair(const uint8_t *tape, size_t tape_len, const uint8_t *sheet, size_t sheet_len, const char *text)
+{
+    look_at_rooms(bliskoru_tape_to_sheet, tape, tape_len, turned_into(sheet, sheet_len), text);
+    look_at_rooms(bliskoru_sheet_to_tape, sheet, sheet_len, turned_into(tape, tape_len), text);
+}
+
+/* An accepted sheet of which no text was written by hand: what it is turned into is turned back, with three bytes of text for each of its own. */
+static void look_there_and_back(const uint8_t *sheet, size_t length, const char *text)
+{
+    uint8_t *tape = memory(3 * length);
+    size_t tape_len = 0, at = 0;
+    expect(bliskoru_sheet_to_tape(sheet, length, tape, 3 * length, &tape_len, &at) == BLISKORU_YES, "the sheet has a text", text);
+    look_at_pair(tape, tape_len, sheet, length, text);
+    free(tape);
+}
+
+/* Each line of the table of tapes, which has `least` lines or more. */
+static void each_tape(const char *folder, const char *name, unsigned long least)
+{
+    static struct tape_row row;
+    unsigned long rows = 0;
+    FILE *table = opened(folder, name);
+    for (; next_tape(table, &row); rows++) {
+        if (row.number == BLISKORU_YES)
+            look_at_pair(row.tape, row.tape_len, row.sheet, row.sheet_len, row.text);
+        else
+            look_at_rooms(bliskoru_tape_to_sheet, row.tape, row.tape_len, refused_at(row.number, row.line), row.text);
+    }
+    fclose(table);
+    expect(rows >= least, "the table has its lines", name);
 }
 
 /* ---- whole sheets */
@@ -191,30 +350,45 @@ static void look_at_refused(const struct row *row)
     snprintf(list, sizeof list, "refused %u %lu\n", (unsigned)number, (unsigned long)byte);
     look_at_sheet(row->bytes, row->length, number, byte, NULL, row->text);
     look_at_list(row->bytes, row->length, list, row->text);
+    look_at_rooms(bliskoru_sheet_to_tape, row->bytes, row->length, refused_at(number, byte), row->text);
 }
 
 static void look_at_accepted(const struct row *row)
 {
     look_at_sheet(row->bytes, row->length, BLISKORU_YES, 0, row->numbers, row->text);
+    look_there_and_back(row->bytes, row->length, row->text);
+}
+
+/* A file of the samples, which is shorter than the room for it. */
+static size_t sample(const char *folder, const char *name, const char *kind, uint8_t *bytes)
+{
+    char path[256];
+    size_t length;
+    FILE *file;
+    snprintf(path, sizeof path, "examples/%s.%s", name, kind);
+    file = opened(folder, path);
+    length = fread(bytes, 1, ROOM, file);
+    fclose(file);
+    expect(length > 0 && length < ROOM, "the sample's length", path);
+    return length;
 }
 
 /* A sample sheet of the repository and the list beside it. */
 static void look_at_sample(const char *folder, const char *name)
 {
-    char path[256], list[ROOM];
+    char list[ROOM + 1];
     uint8_t sheet[ROOM];
-    size_t length, listed;
-    FILE *file;
-    snprintf(path, sizeof path, "examples/%s.sheet", name);
-    file = opened(folder, path);
-    length = fread(sheet, 1, sizeof sheet, file);
-    fclose(file);
-    snprintf(path, sizeof path, "examples/%s.list", name);
-    file = opened(folder, path);
-    listed = fread(list, 1, sizeof list - 1, file);
-    list[listed] = '\0';
-    fclose(file);
+    size_t length = sample(folder, name, "sheet", sheet);
+    list[sample(folder, name, "list", (uint8_t *)list)] = '\0';
     look_at_list(sheet, length, list, name);
+}
+
+/* A sample sheet and the text beside it. */
+static void look_at_sample_tape(const char *folder, const char *name)
+{
+    uint8_t sheet[ROOM], tape[ROOM];
+    size_t length = sample(folder, name, "sheet", sheet);
+    look_at_pair(tape, sample(folder, name, "tape", tape), sheet, length, name);
 }
 
 /* ---- one field */
@@ -329,10 +503,8 @@ static uint8_t *put(uint8_t *at, uint64_t number, int bytes)
  */
 static uint8_t *nickel_of(size_t trades, size_t quotes, size_t *length)
 {
-    uint8_t *sheet = (uint8_t *)malloc(6 + 14 * trades + 17 * quotes + 7 + 1), *at = sheet;
+    uint8_t *sheet = memory(6 + 14 * trades + 17 * quotes + 7 + 1), *at = sheet;
     size_t k;
-    if (sheet == NULL)
-        exit(2);
     at = put(put(put(put(at, 1, 1), 3, 2), 1, 1), 0, 2);
     for (k = 0; k < trades; k++)
         at = put(put(put(put(put(put(at, 3, 1), 11, 2), 58500000, 4), 0, 1), 1800000, 4), 10000, 2);
@@ -354,6 +526,7 @@ static void look_at_longest(void)
     expect(length == BLISKORU_LONGEST_SHEET, "the longest sheet's length", "longest");
     look_at_sheet(sheet, length, BLISKORU_YES, 0, answers, "longest");
     look_at_sheet(sheet, length + 1, BLISKORU_SHEET_TOO_LONG, 0, NULL, "one byte longer than the longest");
+    look_at_rooms(bliskoru_sheet_to_tape, sheet, length + 1, refused_at(BLISKORU_SHEET_TOO_LONG, 0), "one byte longer than the longest");
     look_at_list(sheet, length, "too long\n", "longest");
     look_at_list(sheet, length + 1, "too long\n", "one byte longer than the longest");
     look_at_read(sheet, length, length - 7, BLISKORU_YES, end, length, "the longest sheet's end");
@@ -380,6 +553,77 @@ static void look_at_longest_listed(void)
     free(sheet);
 }
 
+/* So many times the same line. */
+static uint8_t *put_lines(uint8_t *at, const char *line, size_t times)
+{
+    size_t length = strlen(line);
+    for (; times > 0; times--) {
+        memcpy(at, line, length);
+        at += length;
+    }
+    return at;
+}
+
+/* The text of the sheet of nickel_of, with room behind it for two lines more. */
+static uint8_t *nickel_tape_of(size_t trades, size_t quotes, size_t *length)
+{
+    uint8_t *tape = memory(40 * (1 + trades + quotes + 2)), *at = tape;
+    at = put_lines(at, "METAL,Nickel,0\n", 1);
+    at = put_lines(at, "58500000,3M,TRADE,18000.00,10000\n", trades);
+    at = put_lines(at, "58500000,3M,QUOTE,-,-\n", quotes);
+    *length = (size_t)(at - tape);
+    return tape;
+}
+
+/* The text of the longest sheet, 15 + 33 * 74,884 + 22 * 11 bytes. */
+static void look_at_longest_sheets_tape(void)
+{
+    size_t length, tape_len;
+    uint8_t *sheet = nickel_of(74884, 11, &length), *tape = nickel_tape_of(74884, 11, &tape_len);
+    expect(length == BLISKORU_LONGEST_SHEET && tape_len == 2471429, "the lengths of sheet and text", "longest");
+    look_at_pair(tape, tape_len, sheet, length, "the longest sheet's text");
+    free(sheet);
+    free(tape);
+}
+
+/* A text whose sheet would have 6 + 14 * 74,895 + 17 * 2 + 7 = 1,048,577 bytes: 1 in any room, but not before a bad line. It has 74,898 lines. */
+static void look_at_too_long_a_tape(void)
+{
+    const struct turned too_long = refused_at(BLISKORU_SHEET_TOO_LONG, 0);
+    size_t length;
+    uint8_t *tape = nickel_tape_of(74895, 2, &length), *end = tape + length, *end_2;
+    look_at_turning(bliskoru_tape_to_sheet, tape, length, too_long, 0, "one byte too long");
+    look_at_turning(bliskoru_tape_to_sheet, tape, length, too_long, BLISKORU_LONGEST_SHEET, "one byte too long");
+    look_at_turning(bliskoru_tape_to_sheet, tape, length, too_long, BLISKORU_LONGEST_SHEET + 1, "one byte too long");
+    look_at_rooms(bliskoru_tape_to_sheet, tape, length - 1, refused_at(BLISKORU_LINE, 74898), "too long, and no last line feed");
+    end_2 = put_lines(end, "0,3M,QUOTE,-,-\n", 1);
+    look_at_rooms(bliskoru_tape_to_sheet, tape, (size_t)(end_2 - tape), refused_at(BLISKORU_TIME, 74899), "too long, and a time that falls");
+    end_2 = put_lines(end, "PREV,3M,1.00\n", 1);
+    look_at_rooms(bliskoru_tape_to_sheet, tape, (size_t)(end_2 - tape), refused_at(BLISKORU_OUT_OF_PLACE, 74899), "too long, and a late close");
+    end_2 = put_lines(end, "58500000,3M,QUOTE,-,-\n", 2);
+    look_at_turning(bliskoru_tape_to_sheet, tape, (size_t)(end_2 - tape), too_long, BLISKORU_LONGEST_SHEET, "two lines too long");
+    free(tape);
+}
+
+/*
+ * The longest lines: 21 bytes, and 39 for each of 74,897 trades, of which a sheet of 6 + 14 * 74,897 + 7 = 1,048,571 bytes is made. Each byte of a
+ * sheet has at most three of text.
+ */
+static void look_at_longest_lines(void)
+{
+    const size_t length = 21 + 39 * 74897;
+    uint8_t *tape = memory(length), *sheet = memory(BLISKORU_LONGEST_SHEET), *at = put_lines(tape, "METAL,Aluminium,2047\n", 1);
+    size_t sheet_len = 0, line = 0;
+    at = put_lines(at, "86399999,Cash-M1,TRADE,-99999.99,10000\n", 74897);
+    expect((size_t)(at - tape) == length && length < BLISKORU_LONGEST_TAPE, "the text's length", "the longest lines");
+    expect(bliskoru_tape_to_sheet(tape, length, sheet, BLISKORU_LONGEST_SHEET, &sheet_len, &line) == BLISKORU_YES, "the text is accepted",
+           "the longest lines");
+    expect(sheet_len == 1048571, "the sheet's length", "the longest lines");
+    look_at_pair(tape, length, sheet, sheet_len, "the longest lines");
+    free(tape);
+    free(sheet);
+}
+
 /* The reader of one field has no 1: it reads a field at byte 2,000,000 too. */
 static void look_far(void)
 {
@@ -402,13 +646,19 @@ int main(int argc, char **argv)
     each_row(folder, "hosts/edges/heads.txt", 35, look_at_head);
     each_row(folder, "hosts/edges/sheets.txt", 50, look_at_refused);
     each_row(folder, "hosts/edges/answers.txt", 20, look_at_accepted);
+    each_tape(folder, "hosts/edges/tapes.txt", 400);
     look_at_sample(folder, "nickel");
     look_at_sample(folder, "copper");
     look_at_sample(folder, "torn");
     look_at_sample(folder, "no_reference");
     look_at_sample(folder, "resting");
+    look_at_sample_tape(folder, "nickel");
+    look_at_sample_tape(folder, "copper");
     look_at_longest();
     look_at_longest_listed();
+    look_at_longest_sheets_tape();
+    look_at_too_long_a_tape();
+    look_at_longest_lines();
     look_far();
     printf("%lu edges, %lu failed\n", made, failed);
     return failed == 0 ? 0 : 1;
