@@ -2,7 +2,7 @@
 //!
 //! # Safety
 //!
-//! The same holds for all nine. A pointer and the length behind it are a slice, and every other pointer is a reference: none is null,
+//! The same holds for all eleven. A pointer and the length behind it are a slice, and every other pointer is a reference: none is null,
 //! even where the length is 0; each is aligned and holds for the whole call; what a `*mut` points to overlaps with nothing else that
 //! is lent to the same call. `answers` points to 18 numbers and `values` to 6.
 
@@ -82,5 +82,25 @@ extern "C" {
         at: usize,
         count: u32,
         next: *mut usize,
+    ) -> u8;
+
+    /// 0, the sheet and its `length`; or 5, 6, 8 to 11, 17 with the line in `at`, then 1, 16 with 0 there, and nothing else is written.
+    pub fn bliskoru_tape_to_sheet(
+        tape: *const u8,
+        tape_len: usize,
+        sheet: *mut u8,
+        sheet_len: usize,
+        length: *mut usize,
+        at: *mut usize,
+    ) -> u8;
+
+    /// 0, the text and its `length`; or 1 to 12 with the byte in `at`, then 16 with 0 there, and nothing else is written.
+    pub fn bliskoru_sheet_to_tape(
+        sheet: *const u8,
+        sheet_len: usize,
+        tape: *mut u8,
+        tape_len: usize,
+        length: *mut usize,
+        at: *mut usize,
     ) -> u8;
 }

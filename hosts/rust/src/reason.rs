@@ -7,7 +7,7 @@ use std::fmt;
 #[derive(Clone, Copy, Debug, PartialEq, Eq, PartialOrd, Ord, Hash)]
 #[repr(u8)]
 pub enum Reason {
-    /// The sheet has more than 1,048,576 bytes.
+    /// The sheet, or the one that a tape would give, has more than 1,048,576 bytes.
     SheetTooLong = 1,
     /// Bytes of a field are missing, or the end field is.
     BytesMissing = 2,
@@ -15,7 +15,7 @@ pub enum Reason {
     Tag = 3,
     /// The length is not the tag's.
     Length = 4,
-    /// The field is out of its place, or bytes stand after the end field.
+    /// The field or the line is out of its place, bytes stand after the end field, or a tape has no line.
     OutOfPlace = 5,
     /// There is no such metal, or a mark that no spread has.
     MetalOrMarks = 6,
@@ -37,12 +37,14 @@ pub enum Reason {
     CloseOutOfRange = 14,
     /// An earlier contract was refused.
     NotReached = 15,
-    /// There is no room for the field at that place.
+    /// There is no room for the field at that place, or for the sheet or the text.
     DoesNotFit = 16,
+    /// A line of a tape is malformed, or names what there is not.
+    Line = 17,
 }
 
 /// Every reason, number 1 first.
-const REASONS: [Reason; 16] = [
+const REASONS: [Reason; 17] = [
     Reason::SheetTooLong,
     Reason::BytesMissing,
     Reason::Tag,
@@ -59,6 +61,7 @@ const REASONS: [Reason; 16] = [
     Reason::CloseOutOfRange,
     Reason::NotReached,
     Reason::DoesNotFit,
+    Reason::Line,
 ];
 
 impl Reason {
@@ -67,7 +70,7 @@ impl Reason {
         self as u8
     }
 
-    /// The reason of a number, none where it is not 1 to 16.
+    /// The reason of a number, none where it is not 1 to 17.
     pub fn from_number(number: u8) -> Option<Reason> {
         REASONS.get(usize::from(number).checked_sub(1)?).copied()
     }
@@ -84,7 +87,9 @@ impl Reason {
             Reason::BytesMissing => "bytes of a field or the end field are missing",
             Reason::Tag => "the tag is not 1 to 5",
             Reason::Length => "the length is not the tag's",
-            Reason::OutOfPlace => "the field is out of its place, or bytes stand after the end field",
+            Reason::OutOfPlace => {
+                "the field or line is out of its place, bytes stand after the end field, or there is no line"
+            }
             Reason::MetalOrMarks => "there is no such metal, or a mark that no spread has",
             Reason::Instrument => "the instrument is above 11",
             Reason::Time => "the time is above its range or below the time before it",
@@ -97,7 +102,8 @@ impl Reason {
             Reason::NoReference => "less than 5 lots, and no reference at the window's first millisecond",
             Reason::CloseOutOfRange => "no close of 1 to 99,999,999 cents after rounding",
             Reason::NotReached => "an earlier contract was refused",
-            Reason::DoesNotFit => "there is no room for the field at that place",
+            Reason::DoesNotFit => "there is no room for the field at that place, or for the sheet or text",
+            Reason::Line => "the line is malformed, or names what there is not",
         }
     }
 }
@@ -113,9 +119,10 @@ impl Error for Reason {}
 /// A sheet that is refused: why, and the byte at which the field starts that earned it.
 #[derive(Clone, Copy, Debug, PartialEq, Eq, Hash)]
 pub struct Refusal {
-    /// Why: [`Reason::SheetTooLong`] to [`Reason::EndCount`].
+    /// Why: [`Reason::SheetTooLong`] to [`Reason::EndCount`], and [`Reason::DoesNotFit`] where its text has no room.
     pub reason: Reason,
-    /// The byte, counted from 0: where the field starts; 0 for a sheet that is too long; the sheet's length where the end is missing.
+    /// The byte, counted from 0: where the field starts; 0 for a sheet that is too long, or has no room for its text; the sheet's length
+    /// where the end is missing.
     pub byte: usize,
 }
 
@@ -126,6 +133,30 @@ impl fmt::Display for Refusal {
 }
 
 impl Error for Refusal {
+    fn source(&self) -> Option<&(dyn Error + 'static)> {
+        Some(&self.reason)
+    }
+}
+
+/// A text tape that is refused: why, and its first bad line.
+#[derive(Clone, Copy, Debug, PartialEq, Eq, Hash)]
+pub struct TapeRefusal {
+    /// Why: 5, 6, 8 to 11 or [`Reason::Line`] for a line; [`Reason::SheetTooLong`] or [`Reason::DoesNotFit`] where no line is bad.
+    pub reason: Reason,
+    /// The line, counted from 1; 0 where no line is bad.
+    pub line: usize,
+}
+
+impl fmt::Display for TapeRefusal {
+    fn fmt(&self, out: &mut fmt::Formatter<'_>) -> fmt::Result {
+        match self.line {
+            0 => write!(out, "refused: {}", self.reason),
+            line => write!(out, "refused at line {line}: {}", self.reason),
+        }
+    }
+}
+
+impl Error for TapeRefusal {
     fn source(&self) -> Option<&(dyn Error + 'static)> {
         Some(&self.reason)
     }

@@ -3,7 +3,7 @@
 mod common;
 
 use bliskoru::raw;
-use common::{file, filled, longer, nickel_of, rows, Row, FILL, FILLED, GUARD};
+use common::{file, filled, longer, nickel_of, nickel_tape_of, rows, tape_rows, Row, FILL, FILLED, GUARD};
 
 /// All that a call may write but buffers, between guards.
 #[repr(C)]
@@ -16,6 +16,8 @@ struct Lent {
     guard_3: u64,
     place: usize,
     guard_4: u64,
+    length: usize,
+    guard_5: u64,
 }
 
 fn lent() -> Lent {
@@ -28,6 +30,8 @@ fn lent() -> Lent {
         guard_3: all,
         place: FILLED,
         guard_4: all,
+        length: FILLED,
+        guard_5: all,
     }
 }
 
@@ -131,6 +135,93 @@ fn look_at_write(row: &Row, length: usize, at: usize) {
     let told = written(row, &mut buffer[GUARD..GUARD + length], at, &mut got.place);
     assert_eq!((told, got), (number, Lent { place, ..lent() }), "{length} {at} {}", row.text);
     assert!(buffer == behind, "the buffer of {length} {at} {}", row.text);
+}
+
+/// One of the two functions that turn a tape into a sheet and a sheet into a tape.
+type Turning = unsafe extern "C" fn(*const u8, usize, *mut u8, usize, *mut usize, *mut usize) -> u8;
+
+/// Turning into a buffer of `room` bytes: the refusal, else 16 at place 0 where it does not fit, else the bytes at its start and no other.
+fn look_at_turning(turn: Turning, bytes: &[u8], told: Result<&[u8], (u8, usize)>, room: usize, text: &str) {
+    let mut buffer = filled(room);
+    let mut behind = filled(room);
+    let (number, place, length) = match told {
+        Ok(turned) if turned.len() > room => (16, 0, FILLED),
+        Ok(turned) => {
+            behind[GUARD..GUARD + turned.len()].copy_from_slice(turned);
+            (0, FILLED, turned.len())
+        }
+        Err((number, place)) => (number, place, FILLED),
+    };
+    let mut got = lent();
+    let out = &mut buffer[GUARD..GUARD + room];
+    let given = with_copy(bytes, text, |start, length| {
+        // SAFETY: two slices, of which `out` is borrowed alone, and a length and a place of our own.
+        unsafe { turn(start, length, out.as_mut_ptr(), out.len(), &mut got.length, &mut got.place) }
+    });
+    assert_eq!((given, got), (number, Lent { place, length, ..lent() }), "{room} {text}");
+    assert!(buffer == behind, "the buffer of {room} {text}");
+}
+
+/// Room that is ample, exact, one byte too little, and none.
+fn look_at_rooms(turn: Turning, bytes: &[u8], told: Result<&[u8], (u8, usize)>, text: &str) {
+    let length = told.map_or(0, <[u8]>::len);
+    for room in [length + 100, length, length.saturating_sub(1), 0] {
+        look_at_turning(turn, bytes, told, room, text);
+    }
+}
+
+/// An accepted text and its sheet, each turned into the other.
+fn look_at_pair(tape: &[u8], sheet: &[u8], text: &str) {
+    look_at_rooms(raw::bliskoru_tape_to_sheet, tape, Ok(sheet), text);
+    look_at_rooms(raw::bliskoru_sheet_to_tape, sheet, Ok(tape), text);
+}
+
+#[test]
+fn tapes_are_turned_into_sheets_and_back_or_refused_at_a_line() {
+    for row in tape_rows() {
+        match row.number {
+            0 => look_at_pair(&row.tape, &row.sheet, &row.text),
+            number => {
+                look_at_rooms(raw::bliskoru_tape_to_sheet, &row.tape, Err((number, row.line)), &row.text);
+            }
+        }
+    }
+}
+
+#[test]
+fn refused_sheets_have_no_text() {
+    for row in rows("sheets", 50) {
+        let refusal = Err((row.number(), row.numbers[1] as usize));
+        look_at_rooms(raw::bliskoru_sheet_to_tape, &row.bytes, refusal, &row.text);
+    }
+}
+
+#[test]
+fn sample_tapes_are_those_of_their_sheets() {
+    for name in ["nickel", "copper"] {
+        look_at_pair(&file(&format!("examples/{name}.tape")), &file(&format!("examples/{name}.sheet")), name);
+    }
+}
+
+#[test]
+fn the_longest_sheet_has_a_text_and_a_longer_one_has_none() {
+    let sheet = nickel_of(74_884, 11);
+    look_at_pair(&nickel_tape_of(74_884, 11), &sheet, "longest");
+    look_at_rooms(raw::bliskoru_sheet_to_tape, &longer(&sheet), Err((1, 0)), "one byte longer");
+}
+
+/// A sheet of 6 + 14 * 74,895 + 17 * 2 + 7 = 1,048,577 bytes, of which the text has 74,898 lines.
+#[test]
+fn a_text_too_long_for_a_sheet_is_refused_in_any_room_behind_every_bad_line() {
+    let turn = raw::bliskoru_tape_to_sheet;
+    let tape = nickel_tape_of(74_895, 2);
+    for room in [0, 1_048_576, 1_048_577] {
+        look_at_turning(turn, &tape, Err((1, 0)), room, "one byte too long");
+    }
+    let cut = &tape[..tape.len() - 1];
+    look_at_rooms(turn, cut, Err((17, 74_898)), "no last line feed");
+    let falls = [&tape[..], b"0,3M,QUOTE,-,-\n"].concat();
+    look_at_rooms(turn, &falls, Err((8, 74_899)), "a time that falls");
 }
 
 #[test]

@@ -3,8 +3,9 @@
 mod common;
 
 use bliskoru::{answers, judge, list, list_into, read_field, write_field};
-use bliskoru::{Answer, Field, Method, Reason, Refusal, BID, CONTRACTS, OFFER};
-use common::{file, filled, longer, nickel_of, rows, Row};
+use bliskoru::{sheet_to_tape, sheet_to_tape_into, tape_to_sheet, tape_to_sheet_into};
+use bliskoru::{Answer, Field, Method, Reason, Refusal, TapeRefusal, BID, CONTRACTS, LONGEST_TAPE, OFFER};
+use common::{file, filled, longer, nickel_of, nickel_tape_of, rows, tape_rows, Row};
 use std::error::Error;
 use std::thread;
 
@@ -75,6 +76,7 @@ fn refused_sheets_have_their_reason_and_byte() {
         let refusal = Refusal { reason: reason(row.number()), byte: row.numbers[1] as usize };
         assert_eq!(judge(&row.bytes), Err(refusal), "{}", row.text);
         assert_eq!(answers(&row.bytes), Err(refusal), "{}", row.text);
+        assert_eq!(sheet_to_tape(&row.bytes), Err(refusal), "{}", row.text);
         assert_eq!(list(&row.bytes), format!("refused {} {}\n", row.number(), refusal.byte), "{}", row.text);
     }
 }
@@ -85,7 +87,53 @@ fn accepted_sheets_have_their_answers() {
         let wanted = std::array::from_fn(|k| answer_of(&row.numbers[3 * k..]));
         assert_eq!(judge(&row.bytes), Ok(()), "{}", row.text);
         assert_eq!(answers(&row.bytes), Ok(wanted), "{}", row.text);
+        let tape = sheet_to_tape(&row.bytes).expect("a text");
+        assert_eq!(tape_to_sheet(&tape).as_ref(), Ok(&row.bytes), "{}", row.text);
     }
+}
+
+#[test]
+fn tapes_have_their_sheets_or_their_reason_and_line() {
+    for row in tape_rows() {
+        let wanted = match row.number {
+            0 => Ok(row.sheet.clone()),
+            number => Err(TapeRefusal { reason: reason(number), line: row.line }),
+        };
+        assert_eq!(tape_to_sheet(&row.tape), wanted, "{}", row.text);
+        if row.number == 0 {
+            assert_eq!(sheet_to_tape(&row.sheet).as_ref(), Ok(&row.tape), "{}", row.text);
+        }
+    }
+}
+
+#[test]
+fn a_tape_goes_into_lent_room_whole_or_not_at_all() {
+    let (tape, sheet) = (b"METAL,Lead,1\n", [1, 0, 3, 5, 0, 1, 5, 0, 4, 0, 0, 0, 1]);
+    let mut room = [7; 15];
+    assert_eq!(tape_to_sheet_into(tape, &mut room), Ok(13));
+    assert_eq!((&room[..13], &room[13..]), (&sheet[..], &[7, 7][..]));
+    assert_eq!(sheet_to_tape_into(&sheet, &mut room), Ok(13));
+    assert_eq!(&room, b"METAL,Lead,1\n\x07\x07");
+    let mut room = [7; 12];
+    let full = Reason::DoesNotFit;
+    assert_eq!(tape_to_sheet_into(tape, &mut room), Err(TapeRefusal { reason: full, line: 0 }));
+    assert_eq!(sheet_to_tape_into(&sheet, &mut room), Err(Refusal { reason: full, byte: 0 }));
+    assert_eq!(room, [7; 12]);
+}
+
+#[test]
+fn the_longest_tapes_have_room() {
+    let (tape, sheet) = (nickel_tape_of(74_884, 11), nickel_of(74_884, 11));
+    assert!(tape_to_sheet(&tape).as_ref() == Ok(&sheet) && sheet_to_tape(&sheet).as_ref() == Ok(&tape));
+    let widest =
+        format!("METAL,Aluminium,2047\n{}", "86399999,Cash-M1,TRADE,-99999.99,10000\n".repeat(74_897));
+    let sheet = tape_to_sheet(widest.as_bytes()).expect("a sheet");
+    assert_eq!(sheet.len(), 1_048_571);
+    assert!(sheet_to_tape(&sheet).is_ok_and(|tape| tape == widest.as_bytes() && tape.len() < LONGEST_TAPE));
+    let quotes = format!("METAL,Zinc,0\n{}", "0,3M,QUOTE,-,-\n".repeat(1_000));
+    assert_eq!(tape_to_sheet(quotes.as_bytes()).map(|sheet| sheet.len()), Ok(17_013));
+    let long = TapeRefusal { reason: Reason::SheetTooLong, line: 0 };
+    assert_eq!(tape_to_sheet(&nickel_tape_of(74_895, 2)), Err(long));
 }
 
 #[test]
@@ -138,6 +186,11 @@ fn no_bytes_at_all_are_lent_without_a_null_pointer() {
     assert_eq!(answers(&[]), Err(missing));
     assert_eq!(list(&[]), "refused 2 0\n");
     assert_eq!(list_into(&[], &mut []), None);
+    assert_eq!(sheet_to_tape(&[]), Err(missing));
+    assert_eq!(sheet_to_tape_into(&[], &mut []), Err(missing));
+    let no_line = TapeRefusal { reason: Reason::OutOfPlace, line: 1 };
+    assert_eq!(tape_to_sheet(&[]), Err(no_line));
+    assert_eq!(tape_to_sheet_into(&[], &mut []), Err(no_line));
     assert_eq!(read_field(&[], 0), Err(Reason::BytesMissing));
     assert_eq!(write_field(&mut [], 0, &Field::End { count: 0 }), Err(Reason::DoesNotFit));
 }
@@ -164,14 +217,24 @@ fn threads_may_ask_at_once_of_one_sheet() {
 
 #[test]
 fn reasons_are_the_sheets_numbers_and_have_words() {
-    for number in 1..=16 {
+    for number in 1..=17 {
         assert_eq!(reason(number).number(), number);
         assert!(reason(number).to_string().ends_with(&format!(" ({number})")));
     }
-    assert_eq!((Reason::from_number(0), Reason::from_number(17)), (None, None));
+    assert_eq!((Reason::from_number(0), Reason::from_number(18)), (None, None));
     let refusal = judge(&[9, 0, 0]).expect_err("no tag");
     assert_eq!(refusal.to_string(), "refused at byte 0: the tag is not 1 to 5 (3)");
     assert_eq!(refusal.source().map(ToString::to_string), Some(Reason::Tag.to_string()));
+}
+
+#[test]
+fn refusals_of_tapes_have_words() {
+    let refusal = tape_to_sheet(b"METAL,Copper,0\nEND,1\n").expect_err("an end has no line");
+    let words = "refused at line 2: the line is malformed, or names what there is not (17)";
+    assert_eq!(refusal.to_string(), words);
+    assert_eq!(refusal.source().map(ToString::to_string), Some(Reason::Line.to_string()));
+    let refusal = tape_to_sheet_into(b"METAL,Copper,0\n", &mut []).expect_err("no room");
+    assert!(refusal.to_string().starts_with("refused: there is no room "));
 }
 
 #[test]

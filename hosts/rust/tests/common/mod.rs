@@ -1,4 +1,4 @@
-//! The tables of `hosts/edges`, long sheets, and memory that is filled before it is lent.
+//! The tables of `hosts/edges`, long sheets and texts, and memory that is filled before it is lent.
 
 #![allow(dead_code)]
 
@@ -52,6 +52,59 @@ pub fn rows(table: &str, least: usize) -> Vec<Row> {
     rows
 }
 
+/// A line of the table of tapes: number and line of a refusal, or zeros; the text; where it is accepted, its sheet.
+pub struct TapeRow {
+    pub number: u8,
+    pub line: usize,
+    pub tape: Vec<u8>,
+    pub sheet: Vec<u8>,
+    pub text: String,
+}
+
+/// The bytes of a quoted text.
+fn unescaped(quoted: &str) -> Vec<u8> {
+    let mut bytes = Vec::new();
+    let mut rest = quoted;
+    while let Some(first) = rest.chars().next() {
+        let escape = if first == '\\' { rest.chars().nth(1) } else { None };
+        let (byte, behind) = match escape {
+            None => (first as u8, 1),
+            Some('n') => (b'\n', 2),
+            Some('r') => (b'\r', 2),
+            Some('t') => (b'\t', 2),
+            Some(_) => (bytes_of(&rest[2..4])[0], 4),
+        };
+        bytes.push(byte);
+        rest = &rest[behind..];
+    }
+    bytes
+}
+
+fn tape_row_of(line: &str) -> Option<TapeRow> {
+    if line.starts_with('#') {
+        return None;
+    }
+    let (numbers, rest) = line.split_once('"')?;
+    let (quoted, rest) = rest.split_once('"').expect("the end of the text");
+    let mut numbers = numbers.split_whitespace().map(|number| number.parse().expect("a number"));
+    let mut number = || -> usize { numbers.next().expect("two numbers") };
+    Some(TapeRow {
+        number: number() as u8,
+        line: number(),
+        tape: unescaped(quoted),
+        sheet: bytes_of(rest.split('#').next()?),
+        text: line.to_string(),
+    })
+}
+
+/// The lines of the table of tapes, which has 400 lines or more.
+pub fn tape_rows() -> Vec<TapeRow> {
+    let text = String::from_utf8(file("hosts/edges/tapes.txt")).expect("a text");
+    let rows: Vec<TapeRow> = text.lines().filter_map(tape_row_of).collect();
+    assert!(rows.len() >= 400, "tapes has {} lines", rows.len());
+    rows
+}
+
 /// The bytes between two guards, all filled.
 pub fn filled(length: usize) -> Vec<u8> {
     vec![FILL; GUARD + length + GUARD]
@@ -82,4 +135,11 @@ pub fn nickel_of(trades: usize, quotes: usize) -> Vec<u8> {
 /// The sheet with one zero byte behind it.
 pub fn longer(sheet: &[u8]) -> Vec<u8> {
     [sheet, &[0]].concat()
+}
+
+/// The text of the sheet of `nickel_of`.
+pub fn nickel_tape_of(trades: usize, quotes: usize) -> Vec<u8> {
+    let trades = "58500000,3M,TRADE,18000.00,10000\n".repeat(trades);
+    let quotes = "58500000,3M,QUOTE,-,-\n".repeat(quotes);
+    format!("METAL,Nickel,0\n{trades}{quotes}").into_bytes()
 }
