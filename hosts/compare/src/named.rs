@@ -1,8 +1,12 @@
-//! The named cases: the library's lists and answers beside those written by hand, and beside the independent program's.
+//! The named cases: the library's lists and answers, sheets of texts and texts of sheets beside those written by hand, and beside the
+//! independent program's.
 
 use crate::same;
+use crate::tapes::{Told, Turning, TO_SHEET, TO_TAPE};
 use bliskoru::CONTRACTS;
+use independent::named::tapes::{large_tapes, large_untapes, named_tapes, named_untapes, NamedTape};
 use independent::named::{large_cases, named_cases, NamedCase};
+use independent::TAPE_LIMIT;
 
 /// Every named case, those too long for a list too; how many they are, or the first that differs.
 pub fn hold() -> Result<usize, String> {
@@ -33,4 +37,33 @@ fn answers_as_lines(case: &NamedCase) -> String {
     let metal = case.list.lines().next().unwrap_or_default();
     let lines = CONTRACTS.iter().zip(answers).map(|(contract, answer)| format!("{contract} {answer}\n"));
     format!("{metal}\n{}", lines.collect::<String>())
+}
+
+/// Every named text and sheet that is turned, the longest among them; how many they are, or the first that differs.
+pub fn hold_tapes() -> Result<usize, String> {
+    let texts = [named_tapes(), large_tapes()].concat();
+    let sheets = [named_untapes(), large_untapes()].concat();
+    let turned = texts.iter().map(|case| (case, &TO_SHEET));
+    for (case, turning) in turned.chain(sheets.iter().map(|case| (case, &TO_TAPE))) {
+        turned_as_written(case, turning).map_err(|difference| format!("{}: {difference}", case.name))?;
+    }
+    Ok(texts.len() + sheets.len())
+}
+
+/// Turned by both as it is by hand in the room of the case, and alike in any other room.
+fn turned_as_written(case: &NamedTape, turning: &Turning) -> Result<(), String> {
+    // the greatest room of a case is more than there is memory for, and none needs more than this
+    let told = turning.look_at_room(&case.input, case.room.min(TAPE_LIMIT))?;
+    if told != case.expected {
+        let [by_hand, told] = [&case.expected, &told].map(shown);
+        return Err(format!("by hand {by_hand}, both say {told}"));
+    }
+    turning.look(&case.input).map(|_| ())
+}
+
+fn shown(told: &Told) -> String {
+    match told {
+        Ok(bytes) => format!("{} bytes {}", bytes.len(), bytes.escape_ascii()),
+        Err((number, place)) => format!("{number} at {place}"),
+    }
 }

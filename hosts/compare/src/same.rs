@@ -1,5 +1,6 @@
 //! One sheet, asked of both.
 
+use crate::tapes;
 use bliskoru::{Answer, Field, Method, LIST_ROOM};
 use independent::list::{closing_list, closing_list_by_spans};
 use independent::pricing::{price_day, price_day_by_spans};
@@ -32,7 +33,7 @@ pub fn hexadecimal(sheet: &[u8]) -> String {
     sheet.iter().map(|byte| format!("{byte:02x}")).collect()
 }
 
-fn same<T: PartialEq + Debug>(what: &str, library: &T, independent: &T) -> Result<(), String> {
+pub fn same<T: PartialEq + Debug>(what: &str, library: &T, independent: &T) -> Result<(), String> {
     if library == independent {
         return Ok(());
     }
@@ -47,6 +48,8 @@ pub fn look(sheet: &[u8], item: u64, walked: bool) -> Result<Told, String> {
     same("judgement", &bliskoru::judge(sheet).map_err(refusal), &told.map(|_| ()))?;
     same("answers", &bliskoru::answers(sheet).map_err(refusal), &told.map(|accepted| accepted.answers))?;
     look_at_list(sheet, walked)?;
+    let text = tapes::look_at_sheet(sheet)?;
+    same("judgement by the text", &text.map(|_| ()), &told.map(|_| ()))?;
     if sheet.len() <= LONGEST_READ {
         look_at_fields(sheet, item)?;
     }

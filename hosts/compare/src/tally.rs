@@ -37,7 +37,7 @@ fn place_of(answer: &Answer) -> usize {
     }
 }
 
-fn add_to(row: &mut [u64], other: &[u64]) {
+pub fn add_to(row: &mut [u64], other: &[u64]) {
     for (sum, count) in row.iter_mut().zip(other) {
         *sum += count;
     }
@@ -97,7 +97,7 @@ impl Tally {
         let numbers = numbers();
         let numbers: Vec<&str> = numbers.iter().map(String::as_str).collect();
         format!(
-            "{} sheets of {} bytes, no difference; accepted {accepted} ({}), {} of them walked, {} decided by a resting quote; refused by {}; contracts {}; bytes {}",
+            "{} sheets of {} bytes, no difference; accepted {accepted} ({}), each as text and back, {} of them walked, {} decided by a resting quote; refused by {}; contracts {}; bytes {}",
             self.sheets,
             self.bytes,
             named(&METALS, &self.metals),
