@@ -13,8 +13,8 @@
 enum { STACK = 1 << 20, PAINT = 0xA5 };
 
 static uint8_t stack[STACK] __attribute__((aligned(64)));
-static uint8_t sheet[1048576], out[512];
-static size_t len, place;
+static uint8_t sheet[1048576], out[512], tape[3 * sizeof sheet], again[sizeof sheet];
+static size_t len, tape_len, again_len, place;
 static uint64_t answers[18];
 static int64_t values[6];
 static ucontext_t here, there;
@@ -28,6 +28,8 @@ static void read_all(void) {
     while (bliskoru_read(sheet, len, at, values, &at) == 0)
         ;
 }
+static void to_tape(void) { bliskoru_sheet_to_tape(sheet, len, tape, sizeof tape, &tape_len, &place); }
+static void to_sheet(void) { bliskoru_tape_to_sheet(tape, tape_len, again, sizeof again, &again_len, &place); }
 static void write_one(void) { bliskoru_write_quote(out, sizeof out, 0, 58500000, 0, 3, 1800000, 1800010, &place); }
 
 static size_t depth(void (*run)(void)) {
@@ -64,6 +66,7 @@ int main(int count, char **names) {
         int n = snprintf(line, sizeof line, "%s, %zu bytes\n", names[i], len);
         if (write(1, line, n) != n) return 1;
         say("list", list), say("judge", judge), say("answers", price), say("read", read_all), say("write", write_one);
+        say("to-tape", to_tape), say("to-sheet", to_sheet);
     }
     return 0;
 }

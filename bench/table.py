@@ -6,6 +6,9 @@ import sys
 SIZES = [130, 65536, 1048576]
 SHEETS = {'trades': 'mostly trades', 'quotes': 'mostly quotes', 'twap': 'all by TWAP', 'vwap': 'all by VWAP'}
 SIDES = ['library', 'independent', 'plain', 'limit']
+WORKS = ['judge', 'read', 'list', 'answers']
+ON_TEXTS = ['to-sheet', 'to-tape']
+TEXTS = {'trades': 'mostly trades', 'quotes': 'mostly quotes', 'widest': 'longest lines'}
 
 
 def numbers(name):
@@ -13,7 +16,7 @@ def numbers(name):
     found = {}
     with open(name, encoding='utf-8') as lines:
         for line in lines:
-            words = re.match(r'(judge|read|list|answers) +(\w+) +(\d+) ', line)
+            words = re.match(r'(judge|read|list|answers|to-sheet|to-tape) +(\w+) +(\d+) ', line)
             if words:
                 work, sheet, size = words.groups()
                 found[work, sheet, int(size)] = {side: float(number) for side, number in re.findall(r'([a-z]+) ([\d.]+) \(', line)}
@@ -56,9 +59,21 @@ def table(found, heads, cells):
     """Markdown: a row for each work and sheet, its cells by the function."""
     print('| Work | Sheet | ' + ' | '.join(heads) + ' |')
     print('|---|---|' + '---:|' * len(heads))
-    for work in dict.fromkeys(work for work, _, _ in found):
+    for work in dict.fromkeys(work for work, _, _ in found if work in WORKS):
         for sheet, name in SHEETS.items():
             print(f'| {work} | {name} | ' + ' | '.join(cells(work, sheet)) + ' |')
+    print()
+
+
+def text_table(times, counts):
+    """Markdown: a row for each work over a text, with instructions a byte of the text."""
+    print('| Work | Text | Bytes of text | library | library / independent | instructions a byte (library / independent) |')
+    print('|---|---|---:|---:|---:|---:|')
+    for key, least in times.items():
+        work, text, size = key
+        if work in ON_TEXTS:
+            each = ' / '.join(figure(counts[key][side] / size) if key in counts else '–' for side in SIDES[:2])
+            print(f'| {work} | {TEXTS[text]} | {size:,} | {time(least["library"])} | {ratio(least, "independent")} | {each} |')
     print()
 
 
@@ -79,6 +94,7 @@ def main():
 
     table(times, [head for other in SIDES[1:] for head in by_size(f'library / {other}')], ratios)
     table(times, by_size('library') + counted(SIDES), own)
+    text_table(times, counts)
 
 
 main()

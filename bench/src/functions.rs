@@ -19,6 +19,22 @@ extern "C" {
     fn bliskoru_judge(sheet: *const u8, len: usize, at: *mut usize) -> u8;
     fn bliskoru_answers(sheet: *const u8, len: usize, rows: *mut Rows, at: *mut usize) -> u8;
     fn bliskoru_read(sheet: *const u8, len: usize, at: usize, values: *mut Values, next: *mut usize) -> u8;
+    fn bliskoru_tape_to_sheet(
+        tape: *const u8,
+        len: usize,
+        sheet: *mut u8,
+        room: usize,
+        length: *mut usize,
+        at: *mut usize,
+    ) -> u8;
+    fn bliskoru_sheet_to_tape(
+        sheet: *const u8,
+        len: usize,
+        tape: *mut u8,
+        room: usize,
+        length: *mut usize,
+        at: *mut usize,
+    ) -> u8;
 
     fn plain_judge(sheet: *const u8, len: usize, at: *mut usize) -> u8;
     fn plain_answers(sheet: *const u8, len: usize, rows: *mut Rows, at: *mut usize) -> u8;
@@ -33,6 +49,12 @@ extern "C" {
 /// One side's list; `plain.c` has none.
 pub struct Lister(unsafe extern "C" fn(*const u8, usize, *mut u8, usize) -> usize);
 
+/// The library's turning of a tape into a sheet, or back; the C programs have none.
+pub struct Turner(unsafe extern "C" fn(*const u8, usize, *mut u8, usize, *mut usize, *mut usize) -> u8);
+
+pub const LIBRARY_TO_SHEET: Turner = Turner(bliskoru_tape_to_sheet);
+pub const LIBRARY_TO_TAPE: Turner = Turner(bliskoru_sheet_to_tape);
+
 pub const LIBRARY: Functions =
     Functions { judge: bliskoru_judge, answers: bliskoru_answers, read: bliskoru_read };
 pub const PLAIN: Functions = Functions { judge: plain_judge, answers: plain_answers, read: plain_read };
@@ -46,6 +68,20 @@ impl Lister {
     pub fn list(&self, sheet: &[u8], out: &mut [u8]) -> usize {
         // SAFETY: both pairs are a live slice's pointer and length.
         unsafe { (self.0)(sheet.as_ptr(), sheet.len(), out.as_mut_ptr(), out.len()) }
+    }
+}
+
+impl Turner {
+    /// What is turned stands at the start of `out`: its length, or the refusal's number and place.
+    pub fn turn(&self, bytes: &[u8], out: &mut [u8]) -> Result<usize, (u8, usize)> {
+        let (mut length, mut at) = (0, 0);
+        // SAFETY: both pairs are a live slice's; `length` and `at` are live.
+        match unsafe {
+            (self.0)(bytes.as_ptr(), bytes.len(), out.as_mut_ptr(), out.len(), &mut length, &mut at)
+        } {
+            0 => Ok(length),
+            number => Err((number, at)),
+        }
     }
 }
 

@@ -4,6 +4,7 @@
 //! * [`functions`] the archive's functions and those of the C programs
 //! * [`second`]    the independent program's, in the same shapes
 //! * [`sheets`]    the sheets that are timed
+//! * [`tapes`]     the texts that are timed
 //! * [`damaged`]   the sheets that are only compared
 //! * [`same`]      the four sides held to one another
 //! * [`work`]      the pieces of work, by name, for each side
@@ -13,4 +14,5 @@ pub mod functions;
 pub mod same;
 pub mod second;
 pub mod sheets;
+pub mod tapes;
 pub mod work;

@@ -1,9 +1,10 @@
-//! Holds the four sides to one another, then times each piece of work on every sheet, the ways to do it taking
-//! turns in one loop, and keeps the least time of each. `bench compare` does the first part alone.
+//! Holds the four sides to one another, then times each piece of work on every sheet or text, the ways to do it
+//! taking turns in one loop, and keeps the least time of each. `bench compare` does the first part alone.
 
-use bench::same::{agree, compare};
+use bench::same::{agree, agree_on_tape, compare};
 use bench::sheets::{sheet, KINDS, SIZES};
-use bench::work::{Way, Work, ALL};
+use bench::tapes;
+use bench::work::{Way, Work, ALL, ON_TAPES};
 use std::process::ExitCode;
 use std::time::{Duration, Instant};
 
@@ -41,10 +42,11 @@ fn least_times(work: &Work, sheet: &[u8]) -> (Vec<f64>, usize) {
     (least, rounds)
 }
 
-/// One line of times: each way's nanoseconds, and library / it.
-fn time(work: &Work, kind: &str, sheet: &[u8]) {
-    let (times, rounds) = least_times(work, sheet);
-    print!("{:<8} {kind:<7} {:>7} {rounds:>7}", work.name, sheet.len());
+/// One line of times over a sheet, or over a text of so many bytes or its sheet: each way's nanoseconds, and
+/// library / it.
+fn time(work: &Work, kind: &str, bytes: usize, given: &[u8]) {
+    let (times, rounds) = least_times(work, given);
+    print!("{:<8} {kind:<7} {bytes:>7} {rounds:>7}", work.name);
     for (way, time) in work.ways.iter().zip(&times) {
         print!("  {} {time:.1} ({:.2})", way.side, times[0] / time);
     }
@@ -58,14 +60,25 @@ fn run(names: &[String]) -> Result<(), String> {
         return Ok(());
     }
     println!("work     sheet   bytes    rounds  each way: ns (library / it)");
-    for work in ALL.iter().filter(|work| names.is_empty() || names.iter().any(|name| name == work.name)) {
+    let is_named = |work: &&Work| names.is_empty() || names.iter().any(|name| name == work.name);
+    for work in ALL.iter().filter(is_named) {
         for kind in KINDS {
             for bytes in SIZES.into_iter().filter(|bytes| *bytes <= work.limit) {
                 let sheet = sheet(kind, bytes);
                 assert_eq!(sheet.len(), bytes);
                 agree(&sheet)?;
-                time(work, kind.name(), &sheet);
+                time(work, kind.name(), bytes, &sheet);
             }
+        }
+    }
+    ON_TAPES.iter().filter(is_named).try_for_each(run_on_tapes)
+}
+
+fn run_on_tapes(work: &Work) -> Result<(), String> {
+    for kind in tapes::KINDS {
+        for tape in tapes::SIZES.map(|bytes| tapes::tape(kind, bytes)) {
+            agree_on_tape(&tape)?;
+            time(work, kind.name(), tape.len(), &work.given(&tape));
         }
     }
     Ok(())

@@ -1,9 +1,11 @@
 //! The four sides held to one another over a sheet: judgement, fields, answers and list, and every byte that a
-//! call leaves as it was.
+//! call leaves as it was. The two that have texts are held to one another over these.
 
 use crate::damaged::visit_all;
-use crate::functions::{Functions, Lister, Rows, Values, LIBRARY, LIBRARY_LIST, LIMIT, LIMIT_LIST, PLAIN};
+use crate::functions::{Functions, Lister, Rows, Turner, Values};
+use crate::functions::{LIBRARY, LIBRARY_LIST, LIBRARY_TO_SHEET, LIBRARY_TO_TAPE, LIMIT, LIMIT_LIST, PLAIN};
 use crate::second;
+use crate::tapes::sheet_of;
 use independent::list::closing_list_by_spans;
 use std::fmt::{self, Debug, Display};
 
@@ -151,6 +153,26 @@ pub fn agree(sheet: &[u8]) -> Result<(), String> {
         same("answers by spans", "spans", second::answers_by_spans(sheet), second::answers_by_walking(sheet))
     };
     look().map_err(|difference| format!("{difference}\n{}", shown(sheet)))
+}
+
+/// Turned by the library in room with bytes behind it, in exact room, and in a byte less, where nothing changes.
+fn look_at_turning(side: &Turner, bytes: &[u8], turned: &[u8]) -> Result<(), String> {
+    for room in [turned.len() + 1, turned.len(), turned.len() - 1] {
+        let mut out = vec![FILL; room];
+        let fits = room >= turned.len();
+        let (wanted, length) = if fits { (Ok(turned.len()), turned.len()) } else { (Err((16, 0)), 0) };
+        same("a turning", "library", side.turn(bytes, &mut out), wanted)?;
+        let behind = out[length..].iter().all(|byte| *byte == FILL);
+        same("what is turned", "library", out[..length] == turned[..length] && behind, true)?;
+    }
+    Ok(())
+}
+
+/// An accepted text and its sheet by the independent program, each made of the other by the library.
+pub fn agree_on_tape(tape: &[u8]) -> Result<(), String> {
+    let sheet = sheet_of(tape);
+    look_at_turning(&LIBRARY_TO_SHEET, tape, &sheet)?;
+    look_at_turning(&LIBRARY_TO_TAPE, &sheet, tape)
 }
 
 /// The four sides over all sheets made for it: how many, or the first difference.

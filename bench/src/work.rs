@@ -1,11 +1,16 @@
 //! The pieces of work that are timed and counted, by name, for each side.
 
-use crate::functions::{Functions, Lister, Values, LIBRARY, LIBRARY_LIST, LIMIT, LIMIT_LIST, PLAIN};
+use crate::functions::{Functions, Lister, Turner, Values, LIBRARY, LIBRARY_LIST, LIMIT, LIMIT_LIST, PLAIN};
+use crate::functions::{LIBRARY_TO_SHEET, LIBRARY_TO_TAPE};
 use crate::second;
+use crate::tapes::sheet_of;
 use independent::list::{closing_list, closing_list_by_spans};
+use independent::tables::SHEET_LIMIT;
+use independent::tape::{sheet_to_tape, tape_to_sheet, TAPE_LIMIT};
+use std::cell::RefCell;
 use std::hint::black_box;
 
-/// One side's way to do a piece of work over a sheet.
+/// One side's way to do a piece of work over a sheet or a text.
 pub struct Way {
     pub side: &'static str,
     pub run: fn(&[u8]),
@@ -13,7 +18,7 @@ pub struct Way {
 
 pub struct Work {
     pub name: &'static str,
-    /// The longest sheet it is done over.
+    /// The longest sheet or text it is done over.
     pub limit: usize,
     pub ways: &'static [Way],
 }
@@ -44,6 +49,18 @@ fn list(side: &Lister, sheet: &[u8]) {
 
 fn hold<T>(given: T) {
     black_box(given);
+}
+
+thread_local! {
+    /// What the library is lent: room that it takes from no heap while it is timed.
+    static ROOM: RefCell<Vec<u8>> = RefCell::new(vec![0; TAPE_LIMIT]);
+}
+
+fn turn(side: &Turner, bytes: &[u8]) {
+    ROOM.with_borrow_mut(|room| {
+        hold(side.turn(bytes, room));
+        black_box(room);
+    });
 }
 
 /// The ways of each, the library first. `walking` is the independent program's TWAP by every millisecond, as the
@@ -91,3 +108,34 @@ pub const ALL: [Work; 4] = [
         ],
     },
 ];
+
+/// The same for texts: a text turned into its sheet, and that sheet turned back. The C programs have neither.
+pub const ON_TAPES: [Work; 2] = [
+    Work {
+        name: "to-sheet",
+        limit: TAPE_LIMIT,
+        ways: &[
+            Way { side: "library", run: |tape| turn(&LIBRARY_TO_SHEET, tape) },
+            Way { side: "independent", run: |tape| hold(tape_to_sheet(tape, SHEET_LIMIT)) },
+        ],
+    },
+    Work {
+        name: "to-tape",
+        limit: TAPE_LIMIT,
+        ways: &[
+            Way { side: "library", run: |sheet| turn(&LIBRARY_TO_TAPE, sheet) },
+            Way { side: "independent", run: |sheet| hold(sheet_to_tape(sheet, TAPE_LIMIT)) },
+        ],
+    },
+];
+
+impl Work {
+    /// What a work over texts is given of one: the text, or its sheet.
+    pub fn given(&self, tape: &[u8]) -> Vec<u8> {
+        if self.name == "to-sheet" {
+            tape.to_vec()
+        } else {
+            sheet_of(tape)
+        }
+    }
+}
