@@ -6,14 +6,16 @@
 #include <string.h>
 #include "bliskoru.h"
 
-enum { LIST = 512, SAMPLE = 64, TWAP = 2 };
+enum { LIST = 512, SAMPLE = 64, TWAP = 2, ROOM = 1 << 14 };
 
 uint8_t second_judge(const uint8_t *sheet, size_t len, size_t *at);
 uint8_t second_answers(const uint8_t *sheet, size_t len, uint64_t answers[18], size_t *at);
 size_t second_list(const uint8_t *sheet, size_t len, uint8_t *out, size_t room);
 uint8_t second_read(const uint8_t *sheet, size_t len, size_t at, int64_t values[6], size_t *next);
+uint8_t second_tape_to_sheet(const uint8_t *tape, size_t len, uint8_t *sheet, size_t room, size_t *length, size_t *at);
+uint8_t second_sheet_to_tape(const uint8_t *sheet, size_t len, uint8_t *tape, size_t room, size_t *length, size_t *at);
 
-static unsigned long compared, accepted, priced;
+static unsigned long compared, accepted, priced, texts;
 
 static void differ(const char *what, long long library, long long second) {
     fprintf(stderr, "DIFFERENCE in %s: library %lld, independent %lld\n", what, library, second);
@@ -78,8 +80,39 @@ static void compare_prices(const uint8_t *sheet, size_t len) {
     if (memcmp(list, second_lines, length)) differ("the list", 0, 0);
 }
 
+/* A turning by both. */
+typedef uint8_t turning(const uint8_t *, size_t, uint8_t *, size_t, size_t *, size_t *);
+static const struct turn {
+    turning *library, *second;
+} to_sheet = {bliskoru_tape_to_sheet, second_tape_to_sheet}, to_tape = {bliskoru_sheet_to_tape, second_sheet_to_tape};
+
+/* What both make of the same bytes in so much room, which is left in `out`; its length, or 0. */
+static size_t compare_turned(const struct turn *turn, const uint8_t *bytes, size_t len, uint8_t *out, size_t room) {
+    static uint8_t second[ROOM];
+    size_t length = 0, second_length = 0, at = 0, second_at = 0;
+    memset(out, 0xA5, room), memset(second, 0xA5, room);
+    uint8_t number = turn->library(bytes, len, out, room, &length, &at);
+    same("a turning's number", number, turn->second(bytes, len, second, room, &second_length, &second_at));
+    same("a turning's place", at, second_at);
+    same("a turning's length", length, second_length);
+    if (memcmp(out, second, room)) differ("what was turned", 0, 0);
+    return length;
+}
+
+/* Bytes turned as a tape or as a sheet: in ample room, and where they are accepted in exact room, in a byte less, and back again. */
+static int compare_there_and_back(const struct turn *there, const struct turn *back, const uint8_t *bytes, size_t len) {
+    static uint8_t turned[ROOM], again[ROOM];
+    size_t length = compare_turned(there, bytes, len, turned, ROOM);
+    if (!length) return 0;
+    same("a length in a byte too little", compare_turned(there, bytes, len, turned, length - 1), 0);
+    same("a length in exact room", compare_turned(there, bytes, len, turned, length), length);
+    same("a length there and back", compare_turned(back, turned, length, again, ROOM), len);
+    if (memcmp(again, bytes, len)) differ("what comes back", 0, 0);
+    return 1;
+}
+
 static void report(void) {
-    fprintf(stderr, "%lu sheets compared, %lu of them accepted, %lu of these priced\n", compared, accepted, priced);
+    fprintf(stderr, "%lu sheets and texts compared, %lu sheets accepted, %lu of these priced; %lu texts accepted\n", compared, accepted, priced, texts);
 }
 
 int LLVMFuzzerInitialize(int *count, char ***words) {
@@ -97,17 +130,20 @@ int LLVMFuzzerTestOneInput(const uint8_t *sheet, size_t len) {
     same("the judgement's byte", at, second);
     compare_fields(sheet, len);
     compare_prices(sheet, len);
+    compare_there_and_back(&to_tape, &to_sheet, sheet, len);
+    texts += compare_there_and_back(&to_sheet, &to_tape, sheet, len);
     compared++;
     return 0;
 }
 
 size_t LLVMFuzzerMutate(uint8_t *bytes, size_t len, size_t most);
 
-/* libFuzzer's own change; then, half of the time, the end field is put right, so that sheets with more or fewer fields are accepted too. */
+/* libFuzzer's own change; then, half of the time, a sheet's end field is put right, so that those with more or fewer fields are accepted too. A
+   text starts with a letter or a digit and is left as it is. */
 size_t LLVMFuzzerCustomMutator(uint8_t *bytes, size_t len, size_t most, unsigned seed) {
     static const size_t size[6] = {0, 6, 8, 14, 17, 7};
     len = LLVMFuzzerMutate(bytes, len, most);
-    if (seed % 2) return len;
+    if (seed % 2 || (len && bytes[0] >= '0')) return len;
     size_t at = 0;
     uint32_t count = 0;
     while (at < len && bytes[at] >= 1 && bytes[at] <= 4 && at + size[bytes[at]] <= len) at += size[bytes[at]], count++;

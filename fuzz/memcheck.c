@@ -1,6 +1,6 @@
 /* Calls every function of the archive with memory of exactly the size it is lent, each piece in a heap block of its own, so that valgrind sees
    every byte that is read or written outside it and every byte that is told without having been written.
-   memcheck SHEET STREAM: a sheet that is cut and flipped, and a stream of many sheets (four bytes of length, then the sheet). */
+   memcheck SHEET TAPE SHEETS TAPES: a sheet and a text that are cut and flipped, and a stream of many of each (four bytes of length, then it). */
 #include <stdint.h>
 #include <stdio.h>
 #include <stdlib.h>
@@ -9,7 +9,7 @@
 
 enum { LIMIT = 1048576, LIST = 512, PRICED_OF = 10 };
 
-static unsigned long calls, sheets, priced, accepted;
+static unsigned long calls, sheets, texts, priced, accepted;
 static uint64_t sum; /* of all that the calls told: printed, so that a byte that was never written is noticed */
 
 static void fail(const char *what) {
@@ -66,8 +66,52 @@ static void price(const uint8_t *sheet, size_t len) {
     free(answers), free(at);
 }
 
-/* Judged, read at every place (a long sheet at a few), and priced where that is quick, or where it is this sheet's turn: a contract by TWAP
-   visits 300,000 milliseconds, which takes valgrind a while. */
+/* One of the two functions that turn a tape into a sheet and a sheet into a tape. */
+typedef uint8_t turning(const uint8_t *, size_t, uint8_t *, size_t, size_t *, size_t *);
+
+/* Turned into a buffer of this size: whole, or not a byte changed. Its length, or 0. */
+static size_t turn_into(turning *turn, const uint8_t *bytes, size_t len, uint8_t *out, size_t room) {
+    size_t *length = block(sizeof *length), *at = block(sizeof *at), told = 0;
+    memset(out, 0xA5, room);
+    if (turn(bytes, len, out, room, length, at) == 0) told = *length;
+    else sum += *at;
+    if (told > room) fail("more was turned than there is room for");
+    for (size_t i = told; i < room; i++)
+        if (out[i] != 0xA5) fail("a byte behind what was turned was changed");
+    for (size_t i = 0; i < told; i++) sum += out[i];
+    calls++;
+    free(length), free(at);
+    return told;
+}
+
+static size_t turn_in_room(turning *turn, const uint8_t *bytes, size_t len, size_t room) {
+    uint8_t *out = block(room);
+    size_t told = turn_into(turn, bytes, len, out, room);
+    free(out);
+    return told;
+}
+
+/* In room that is ample and none; what is accepted also in exact room, in a byte less, and back again. */
+static void there_and_back(turning *there, turning *back, const uint8_t *bytes, size_t len) {
+    size_t told = turn_in_room(there, bytes, len, 3 * len);
+    if (turn_in_room(there, bytes, len, 0)) fail("something was turned without room");
+    if (!told) return;
+    if (turn_in_room(there, bytes, len, told - 1)) fail("more was turned than there is room for");
+    uint8_t *turned = block(told), *again = block(len);
+    if (turn_into(there, bytes, len, turned, told) != told) fail("no turning into exact room");
+    if (turn_into(back, turned, told, again, len) != len || memcmp(again, bytes, len)) fail("another one comes back");
+    free(turned), free(again);
+}
+
+static void as_text(const uint8_t *bytes, size_t len) {
+    uint8_t *tape = copy(bytes, len);
+    there_and_back(bliskoru_tape_to_sheet, bliskoru_sheet_to_tape, tape, len);
+    texts++;
+    free(tape);
+}
+
+/* Judged, read at every place (a long sheet at a few), turned into text, and priced where that is quick, or where it is this sheet's turn: a
+   contract by TWAP visits 300,000 milliseconds, which takes valgrind a while. */
 static void everything(const uint8_t *bytes, size_t len) {
     uint8_t *sheet = copy(bytes, len);
     size_t *at = block(sizeof *at);
@@ -79,18 +123,21 @@ static void everything(const uint8_t *bytes, size_t len) {
     size_t step = len < 2000 ? 1 : len / 500;
     for (size_t place = 0; place <= len + 3; place += step) read_at(sheet, len, place);
     read_at(sheet, len, SIZE_MAX), read_at(sheet, len, SIZE_MAX - 2);
+    there_and_back(bliskoru_sheet_to_tape, bliskoru_tape_to_sheet, sheet, len);
     free(sheet), free(at);
 }
 
-static void cuts(const uint8_t *sheet, size_t len) {
-    for (size_t n = 0; n <= len; n++) everything(sheet, n);
+typedef void look(const uint8_t *bytes, size_t len);
+
+static void cuts(look *each, const uint8_t *bytes, size_t len) {
+    for (size_t n = 0; n <= len; n++) each(bytes, n);
 }
 
-static void flips(const uint8_t *sheet, size_t len) {
-    uint8_t *flipped = copy(sheet, len);
+static void flips(look *each, const uint8_t *bytes, size_t len) {
+    uint8_t *flipped = copy(bytes, len);
     for (size_t bit = 0; bit < 8 * len; bit++) {
         flipped[bit / 8] ^= 1u << bit % 8;
-        everything(flipped, len);
+        each(flipped, len);
         flipped[bit / 8] ^= 1u << bit % 8;
     }
     free(flipped);
@@ -142,6 +189,17 @@ static void longest(void) {
     free(sheet);
 }
 
+/* A text of the longest sheet that has trades alone, 74,897 of them, and one with a line more. */
+static void longest_text(void) {
+    static const char metal[] = "METAL,Nickel,0\n", trade[] = "58500000,3M,TRADE,18000.00,10000\n";
+    enum { TRADES = 74897, METAL = sizeof metal - 1, TRADE = sizeof trade - 1 };
+    uint8_t *tape = block(METAL + TRADE * (TRADES + 1)), *at = tape + METAL;
+    memcpy(tape, metal, METAL);
+    for (int i = 0; i <= TRADES; i++) memcpy(at, trade, TRADE), at += TRADE;
+    as_text(tape, METAL + TRADE * TRADES), as_text(tape, METAL + TRADE * (TRADES + 1));
+    free(tape);
+}
+
 /* A sheet with all contracts by VWAP, which is quick to price. */
 static size_t quick_sheet(uint8_t *sheet, size_t room) {
     static const uint8_t spreads[5] = {1, 3, 5, 7, 11};
@@ -163,33 +221,44 @@ static uint8_t *file(const char *name, size_t *len) {
     return bytes;
 }
 
-static void stream(const uint8_t *bytes, size_t len) {
+static void stream(const char *name, look *each) {
+    size_t len;
+    uint8_t *bytes = file(name, &len);
     for (size_t at = 0; at + 4 <= len;) {
         size_t n = (size_t)bytes[at] << 24 | bytes[at + 1] << 16 | bytes[at + 2] << 8 | bytes[at + 3];
-        everything(bytes + at + 4, n);
+        each(bytes + at + 4, n);
         at += 4 + n;
     }
+    free(bytes);
+}
+
+/* Every cut and every flipped bit of a file, and what it is turned into in each room up to 300 bytes. */
+static void around(const char *name, look *each, turning *turn) {
+    size_t len;
+    uint8_t *given = file(name, &len), *exact = copy(given, len);
+    cuts(each, given, len), flips(each, given, len);
+    for (size_t room = 0; room <= 300; room++) turn_in_room(turn, exact, len, room);
+    free(given), free(exact);
 }
 
 int main(int count, char **names) {
-    if (count != 3) fail("usage: memcheck SHEET STREAM");
-    size_t len;
-    uint8_t *given = file(names[1], &len);
-    cuts(given, len), flips(given, len);
-    free(given);
+    if (count != 5) fail("usage: memcheck SHEET TAPE SHEETS TAPES");
+    around(names[1], everything, bliskoru_sheet_to_tape);
+    around(names[2], as_text, bliskoru_tape_to_sheet);
 
     uint8_t made[200];
-    len = quick_sheet(made, sizeof made);
-    cuts(made, len), flips(made, len);
+    size_t len = quick_sheet(made, sizeof made);
+    cuts(everything, made, len), flips(everything, made, len);
     uint8_t *quick = copy(made, len);
     for (size_t room = 0; room <= LIST; room++) list_into(quick, len, room);
     free(quick);
 
     writers();
     longest();
-    uint8_t *many = file(names[2], &len);
-    stream(many, len);
-    free(many);
-    printf("memcheck: %lu calls over %lu sheets, %lu of them given to list and answers; sum %llu\n", calls, sheets, priced, (unsigned long long)sum);
+    longest_text();
+    stream(names[3], everything);
+    stream(names[4], as_text);
+    printf("memcheck: %lu calls over %lu sheets, %lu of them given to list and answers, and %lu texts; sum %llu\n", calls, sheets, priced, texts,
+           (unsigned long long)sum);
     return 0;
 }

@@ -1,12 +1,14 @@
 //! The independent program's answers for a C program: judgement, six answers,
-//! list and one field, each TWAP by spans. The features plant a wrong rule.
+//! list, one field, and a tape turned into a sheet and back, each TWAP by spans.
+//! The features plant a wrong rule.
 
 mod planted;
 
 use independent::field::{read_field, Field};
 use independent::list::list_text;
 use independent::tables::LIST_LIMIT;
-use independent::{Answer, Method};
+use independent::tape::sheet_to_tape;
+use independent::{Answer, Method, Refusal};
 use std::slice;
 
 /// # Safety
@@ -113,4 +115,64 @@ pub unsafe extern "C" fn second_read(
         }
         Err((number, _)) => number,
     }
+}
+
+/// What a C program lends a turning to be written.
+struct Lent<'a> {
+    out: &'a mut [u8],
+    length: &'a mut usize,
+    at: &'a mut usize,
+}
+
+impl Lent<'_> {
+    /// 0 and what was turned at the buffer's start with its length, or the
+    /// refusal's number with its place in `at`.
+    fn tell(self, told: Result<Vec<u8>, Refusal>) -> u8 {
+        match told {
+            Ok(bytes) => {
+                self.out[..bytes.len()].copy_from_slice(&bytes);
+                *self.length = bytes.len();
+                0
+            }
+            Err((number, place)) => {
+                *self.at = place;
+                number
+            }
+        }
+    }
+}
+
+/// 0, the sheet of a tape and its length, or the refusal's number with its line.
+///
+/// # Safety
+/// `tape` and `len` are a live slice's, and so are `sheet` and `room`; `length`
+/// and `at` are live.
+#[no_mangle]
+pub unsafe extern "C" fn second_tape_to_sheet(
+    tape: *const u8,
+    len: usize,
+    sheet: *mut u8,
+    room: usize,
+    length: &mut usize,
+    at: &mut usize,
+) -> u8 {
+    let out = unsafe { slice::from_raw_parts_mut(sheet, room) };
+    Lent { out, length, at }.tell(planted::tape_to_sheet(unsafe { lent(tape, len) }, room))
+}
+
+/// 0, the tape of a sheet and its length, or the refusal's number with its byte.
+///
+/// # Safety
+/// As for [`second_tape_to_sheet`].
+#[no_mangle]
+pub unsafe extern "C" fn second_sheet_to_tape(
+    sheet: *const u8,
+    len: usize,
+    tape: *mut u8,
+    room: usize,
+    length: &mut usize,
+    at: &mut usize,
+) -> u8 {
+    let out = unsafe { slice::from_raw_parts_mut(tape, room) };
+    Lent { out, length, at }.tell(sheet_to_tape(unsafe { lent(sheet, len) }, room))
 }

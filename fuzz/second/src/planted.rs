@@ -4,6 +4,7 @@ use independent::field::{take_field, Field, Refusal};
 use independent::pricing::price_day_by_spans;
 use independent::sheet::Record;
 use independent::tables::{metal_row, window_start, WINDOW};
+use independent::tape;
 use independent::{judge_sheet, Answer, Day};
 
 /// The judgement. Wrong under `equal-sides`: a bid equal to the offer is 11.
@@ -27,6 +28,15 @@ pub fn judge(sheet: &[u8]) -> Result<Day, Refusal> {
         at = next;
     }
     judged
+}
+
+/// The sheet of a text. Wrong under `negative-zero`: -0.00 is taken for 0.00.
+pub fn tape_to_sheet(text: &[u8], room: usize) -> Result<Vec<u8>, Refusal> {
+    if !cfg!(feature = "negative-zero") {
+        return tape::tape_to_sheet(text, room);
+    }
+    let text = String::from_utf8_lossy(text).replace(",-0.00", ",0.00");
+    tape::tape_to_sheet(text.as_bytes(), room)
 }
 
 /// The six answers. Wrong under `window-end`: a trade at start + 300,000 counts.
