@@ -8,6 +8,10 @@ use Rattle.bliskoru.proofs.bliskoru_judge.Reads as judge
 use Rattle.bliskoru.proofs.bliskoru_judge.Kinds as judgeK
 use Rattle.bliskoru.proofs.bliskoru_answers.Reads as answers
 use Rattle.bliskoru.proofs.bliskoru_answers.Kinds as answersK
+use Rattle.bliskoru.proofs.bliskoru_tape_to_sheet.Reads as tape-to-sheet
+use Rattle.bliskoru.proofs.bliskoru_tape_to_sheet.Kinds as tape-to-sheetK
+use Rattle.bliskoru.proofs.bliskoru_sheet_to_tape.Reads as sheet-to-tape
+use Rattle.bliskoru.proofs.bliskoru_sheet_to_tape.Kinds as sheet-to-tapeK
 use Rattle.bliskoru.proofs.bliskoru_read.Reads as read
 use Rattle.bliskoru.proofs.bliskoru_read.Kinds as readK
 use Rattle.bliskoru.proofs.bliskoru_write_header.Reads as write-header
@@ -41,6 +45,30 @@ answers-rows-once κs a x y s t p q = once (p .1 .0) (q .1 .0)
 
 pub answers-place-once : Once 3 answersK.ps answersK.r answers.Post (λ κs x s. now (s .1 .1 .0))
 answers-place-once κs a x y s t p q = once (p .1 .1) (q .1 .1)
+
+pub tape-to-sheet-once : Once 4 tape-to-sheetK.ps tape-to-sheetK.r tape-to-sheet.Post (λ κs x s. x)
+tape-to-sheet-once κs a x y s t p q = once (p .0) (q .0)
+
+pub tape-to-sheet-leaves-once : Once 4 tape-to-sheetK.ps tape-to-sheetK.r tape-to-sheet.Post (λ κs x s. now (s .1 .0))
+tape-to-sheet-leaves-once κs a x y s t p q = once (p .1 .0) (q .1 .0)
+
+pub tape-to-sheet-length-once : Once 4 tape-to-sheetK.ps tape-to-sheetK.r tape-to-sheet.Post (λ κs x s. now (s .1 .1 .0))
+tape-to-sheet-length-once κs a x y s t p q = once (p .1 .1 .0) (q .1 .1 .0)
+
+pub tape-to-sheet-place-once : Once 4 tape-to-sheetK.ps tape-to-sheetK.r tape-to-sheet.Post (λ κs x s. now (s .1 .1 .1 .0))
+tape-to-sheet-place-once κs a x y s t p q = once (p .1 .1 .1) (q .1 .1 .1)
+
+pub sheet-to-tape-once : Once 4 sheet-to-tapeK.ps sheet-to-tapeK.r sheet-to-tape.Post (λ κs x s. x)
+sheet-to-tape-once κs a x y s t p q = once (p .0) (q .0)
+
+pub sheet-to-tape-leaves-once : Once 4 sheet-to-tapeK.ps sheet-to-tapeK.r sheet-to-tape.Post (λ κs x s. now (s .1 .0))
+sheet-to-tape-leaves-once κs a x y s t p q = once (p .1 .0) (q .1 .0)
+
+pub sheet-to-tape-length-once : Once 4 sheet-to-tapeK.ps sheet-to-tapeK.r sheet-to-tape.Post (λ κs x s. now (s .1 .1 .0))
+sheet-to-tape-length-once κs a x y s t p q = once (p .1 .1 .0) (q .1 .1 .0)
+
+pub sheet-to-tape-place-once : Once 4 sheet-to-tapeK.ps sheet-to-tapeK.r sheet-to-tape.Post (λ κs x s. now (s .1 .1 .1 .0))
+sheet-to-tape-place-once κs a x y s t p q = once (p .1 .1 .1) (q .1 .1 .1)
 
 pub read-once : Once 3 readK.ps readK.r read.Post (λ κs x s. x)
 read-once κs a x y s t p q = once (p .0) (q .0)

@@ -11,6 +11,8 @@ use Rattle.sheet.specs.Judgement.{Verdict, accepts, refuses-at}
 use Rattle.price_rules.specs.declared.Method.{Method}
 use Rattle.price_rules.specs.declared.Method.the-variants.{Vwap, Twap}
 use Rattle.price_rules.specs.Closing.{Told, close, refused, Answers, six, none-priced}
+use Rattle.tape.specs.declared.Filled.{Filled}
+use Rattle.tape.specs.declared.Filled.the-variants as Filled
 use Rattle.text.specs.declared.Put.{Put}
 use Rattle.text.specs.declared.Put.the-variants.{Next, Full}
 
@@ -56,6 +58,20 @@ answersByte old (none-priced number at) = at
 abbrev pub answersRows : List ℕ → Answers → List ℕ
 answersRows old (six day tolds) = rowsOf tolds
 answersRows old (none-priced number at) = old
+
+-- ---- what was put at the start of a buffer: the number, and the length or the place that goes with it
+
+abbrev pub filledNumber : Filled → ℕ
+filledNumber (Filled.Whole length) = 0
+filledNumber (Filled.Refused number place) = number
+
+abbrev pub filledLength : ℕ → Filled → ℕ
+filledLength old (Filled.Whole length) = length
+filledLength old (Filled.Refused number place) = old
+
+abbrev pub filledPlace : ℕ → Filled → ℕ
+filledPlace old (Filled.Whole length) = old
+filledPlace old (Filled.Refused number place) = place
 
 -- ---- one field: its tag, its values in the order of its body, and zeros up to six numbers
 

@@ -1,8 +1,9 @@
-// What a C or a Rust program links: a sheet's list, its judgement and its six answers, and single fields read and written, as plain numbers in
-// lent memory. Each function takes a covered one's answer apart; a refusal's number is handed back, and 0 says yes.
+// What a C or a Rust program links: a sheet's list, its judgement and its six answers, a text turned into a sheet and back, and single fields read
+// and written, as plain numbers in lent memory. Each function takes a covered one's answer apart; a refusal's number is handed back, and 0 says yes.
 ghost use mathlib.Core.Path.{_≡_};
 ghost use mathlib.Core.List.{_∷_, []};
 ghost use lib.IntN.{pos};
+ghost use lib.ListN as ListN;
 ghost use Rattle.text.specs.Over.{putPlace, putBuffer};
 ghost use Rattle.field.specs.Reading.{readField};
 ghost use Rattle.field.specs.Writing.{written, bufferAfter};
@@ -11,7 +12,8 @@ ghost use Rattle.sheet.specs.Judgement.{judgeSheet};
 ghost use Rattle.price_rules.specs.Closing.{answersOf};
 ghost use Rattle.price_rules.specs.Says.{answerSays, closingsSay};
 ghost use Rattle.list_lines.specs.Listing.{listOf};
-ghost use Rattle.bliskoru.specs.Host.{lengthOr0, verdictNumber, verdictByte, methodNumber, rowOf, rowsOf, answersNumber, answersByte, answersRows, valuesOf, saidNumber, saidNext, readValues, priceOf};
+ghost use Rattle.tape.specs.Tape.{tapeToSheet, sheetToTape, bufferWith, filled};
+ghost use Rattle.bliskoru.specs.Host.{filledNumber, filledLength, filledPlace, lengthOr0, verdictNumber, verdictByte, methodNumber, rowOf, rowsOf, answersNumber, answersByte, answersRows, valuesOf, saidNumber, saidNext, readValues, priceOf};
 ghost use Rattle.bliskoru.specs.laws.Host.{rowSays};
 use field::Field;
 use field::Price;
@@ -27,6 +29,9 @@ use price_rules::SixAnswers;
 use sheet::Judged;
 use sheet::judge_sheet;
 use six_answers::closings;
+use tape::Filled;
+use tape_reader::tape_to_sheet;
+use tape_writer::sheet_to_tape;
 use text::Put;
 
 // The list's length, or 0 where the buffer has no room for it and is as it was.
@@ -158,6 +163,56 @@ pub extern "C" fn bliskoru_answers(sheet: &[u8], answers: &mut [u64; 18], at: &m
             number
         }
     }
+}
+
+// What was put, by its length; or the refusal's number, and its place.
+fn hand_over(answer: Filled, length: &mut usize, at: &mut usize) -> u8
+    ensures { λ r. ⌜ r ≡ filledNumber answer ⌝ }
+    ensures { λ _. ⌜ now (length .exit) ≡ filledLength (now (length .entry)) answer ⌝ }
+    ensures { λ _. ⌜ now (at .exit) ≡ filledPlace (now (at .entry)) answer ⌝ }
+{
+    match answer {
+        Filled::Whole(n) => {
+            *length = n;
+            0
+        }
+        Filled::Refused(number, place) => {
+            *at = place;
+            number
+        }
+    }
+}
+
+// 0, the text's sheet at the start of the buffer and its length; or the refusal's number, and its line, 0 where no line earns it.
+#[no_mangle]
+pub extern "C" fn bliskoru_tape_to_sheet(
+    tape: &[u8],
+    sheet: &mut [u8],
+    length: &mut usize,
+    at: &mut usize,
+) -> u8
+    ensures { λ r. ⌜ r ≡ filledNumber (filled (tapeToSheet (ListN.length (now (sheet .entry))) (now (tape .entry)))) ⌝ }
+    ensures { λ _. ⌜ now (sheet .exit) ≡ bufferWith (now (sheet .entry)) (tapeToSheet (ListN.length (now (sheet .entry))) (now (tape .entry))) ⌝ }
+    ensures { λ _. ⌜ now (length .exit) ≡ filledLength (now (length .entry)) (filled (tapeToSheet (ListN.length (now (sheet .entry))) (now (tape .entry)))) ⌝ }
+    ensures { λ _. ⌜ now (at .exit) ≡ filledPlace (now (at .entry)) (filled (tapeToSheet (ListN.length (now (sheet .entry))) (now (tape .entry)))) ⌝ }
+{
+    hand_over(tape_to_sheet(tape, sheet), length, at)
+}
+
+// 0, the sheet's text at the start of the buffer and its length; or the refusal's number, and its byte, 0 where the buffer has no room.
+#[no_mangle]
+pub extern "C" fn bliskoru_sheet_to_tape(
+    sheet: &[u8],
+    tape: &mut [u8],
+    length: &mut usize,
+    at: &mut usize,
+) -> u8
+    ensures { λ r. ⌜ r ≡ filledNumber (filled (sheetToTape (ListN.length (now (tape .entry))) (now (sheet .entry)))) ⌝ }
+    ensures { λ _. ⌜ now (tape .exit) ≡ bufferWith (now (tape .entry)) (sheetToTape (ListN.length (now (tape .entry))) (now (sheet .entry))) ⌝ }
+    ensures { λ _. ⌜ now (length .exit) ≡ filledLength (now (length .entry)) (filled (sheetToTape (ListN.length (now (tape .entry))) (now (sheet .entry)))) ⌝ }
+    ensures { λ _. ⌜ now (at .exit) ≡ filledPlace (now (at .entry)) (filled (sheetToTape (ListN.length (now (tape .entry))) (now (sheet .entry)))) ⌝ }
+{
+    hand_over(sheet_to_tape(sheet, tape), length, at)
 }
 
 // A value of a field as a number of 64 bits.

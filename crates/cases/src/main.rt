@@ -5,21 +5,15 @@ ghost use lib.ListN.{length};
 use libc::STDIN_FILENO;
 use libc::STDOUT_FILENO;
 use list::closing_list;
+use program_output::write_part;
 use text::Put;
 use wire::join4;
-
-// The first n bytes of a text.
-fn print_part(text: &[u8], n: usize) {
-    if n <= text.len() {
-        io::write_all(STDOUT_FILENO, &text[..n]);
-    }
-}
 
 // The list of a sheet, and an empty line.
 fn print_list(sheet: &[u8]) {
     let mut out = [0u8; 512];
     match closing_list(sheet, &mut out) {
-        Put::Next(n) => print_part(&out, n),
+        Put::Next(n) => write_part(STDOUT_FILENO, &out, n),
         Put::Full => {
             io::write_all(STDOUT_FILENO, b"no room\n");
         }

@@ -26,5 +26,7 @@ pub const LOTS: u8 = 10;
 pub const SIDES: u8 = 11;
 // The end counts wrong.
 pub const COUNT: u8 = 12;
-// No room in the buffer for the field at its place.
+// No room in the buffer for what is to be put there.
 pub const ROOM: u8 = 16;
+// A line of a text that is malformed, or names what there is not.
+pub const LINE: u8 = 17;

@@ -20,10 +20,12 @@ use Rattle.price_rules.specs.declared.Closed.{Closed}
 use Rattle.price_rules.specs.declared.Closed.the-variants as C
 use Rattle.price_rules.specs.Closing.{Told, Answers}
 use Rattle.price_rules.specs.Says.{closingsSay, closedSays}
+use Rattle.tape.specs.declared.Filled.{Filled}
+use Rattle.tape.specs.declared.Filled.the-variants as Filled
 use Rattle.text.specs.declared.Put.{Put}
 use Rattle.text.specs.declared.Put.the-variants.{Next, Full}
 use Rattle.bliskoru.specs.declared.Row.{Row}
-use Rattle.bliskoru.specs.Host.{lengthOr0, verdictNumber, verdictByte, rowOf, rowsOf, answersNumber, answersByte, answersRows, valuesOf, saidNumber, saidNext, readValues}
+use Rattle.bliskoru.specs.Host.{filledNumber, filledLength, filledPlace, lengthOr0, verdictNumber, verdictByte, rowOf, rowsOf, answersNumber, answersByte, answersRows, valuesOf, saidNumber, saidNext, readValues}
 use Rattle.bliskoru.specs.laws.Host.{rowSays}
 
 told : {A B C : Type 0} (g : B → C) (says : A → B) {r x : A} {d : B} → says r ≡ d → r ≡ x → g (says x) ≡ g d
@@ -37,6 +39,39 @@ module _ {d r : Put} (e : r ≡ d) where
 
   pub no-room : r ≡ Full → 0 ≡ lengthOr0 d
   no-room f = told lengthOr0 (λ x. x) e f
+
+-- ---- what was put at the start of a buffer
+
+module _ {r : Filled} where
+  module _ {n : ℕ} (f : r ≡ Filled.Whole n) where
+    pub whole-number : 0 ≡ filledNumber r
+    whole-number = ap filledNumber (sym f)
+
+    pub whole-length : (old : ℕ) → n ≡ filledLength old r
+    whole-length old = ap (filledLength old) (sym f)
+
+    pub whole-place : (old : ℕ) → old ≡ filledPlace old r
+    whole-place old = ap (filledPlace old) (sym f)
+
+  module _ {number place : ℕ} (f : r ≡ Filled.Refused number place) where
+    pub unfilled-number : number ≡ filledNumber r
+    unfilled-number = ap filledNumber (sym f)
+
+    pub unfilled-length : (old : ℕ) → old ≡ filledLength old r
+    unfilled-length old = ap (filledLength old) (sym f)
+
+    pub unfilled-place : (old : ℕ) → place ≡ filledPlace old r
+    unfilled-place old = ap (filledPlace old) (sym f)
+
+-- what is handed over of an answer is that of what the answer is
+pub filled-number : (r d : Filled) {n : ℕ} → n ≡ filledNumber r → r ≡ d → n ≡ filledNumber d
+filled-number r d e f = e ∙ ap filledNumber f
+
+pub filled-length : (old : ℕ) (r d : Filled) {n : ℕ} → n ≡ filledLength old r → r ≡ d → n ≡ filledLength old d
+filled-length old r d e f = e ∙ ap (filledLength old) f
+
+pub filled-place : (old : ℕ) (r d : Filled) {n : ℕ} → n ≡ filledPlace old r → r ≡ d → n ≡ filledPlace old d
+filled-place old r d e f = e ∙ ap (filledPlace old) f
 
 -- ---- a sheet's judgement
 

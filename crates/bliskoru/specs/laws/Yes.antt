@@ -1,8 +1,8 @@
 -- 0 says yes and nothing else does: no refusal has the number 0, and no list the length 0.
---     read-some, write-some, sheet-some     the number of a refusal is 1 or more
+--     read-some, write-some, sheet-some, tape-some, untape-some     the number of a refusal is 1 or more
 --     list-some                             a list has a byte or more
 -- Assumes nothing.
-use Prim.Native.Nat.{ℕ, _<_}
+use Prim.Native.Nat.{ℕ, _+_, _<_}
 use mathlib.Core.Path.{_≡_, refl, sym, ap, _∙_}
 use mathlib.Core.Bool.{Bool, true, false, cond}
 use mathlib.Core.List.{List, [], _∷_, _++_}
@@ -18,9 +18,16 @@ use Rattle.field.specs.Writing.{written}
 use Rattle.field.specs.laws.Field.{clash}
 use Rattle.field.specs.declared.Field.the-variants.{Header, PreviousClose, Trade, Quote, End}
 use Rattle.admit.specs.declared.Progress.{Progress}
-use Rattle.admit.specs.Admitting.{admit, admitted, admitNumber, stops}
+use Rattle.admit.specs.Admitting.{start, Step, goes, ends, stops, admit, admitted, admitNumber}
 use Rattle.admit.specs.laws.Admitting.{stopped}
-use Rattle.sheet.specs.Judgement.{judgeSheet, refuses-at}
+use Rattle.sheet.specs.Fields.{fieldsOf}
+use Rattle.sheet.specs.Judgement.{Verdict, accepts, refuses-at, judgeSheet}
+use Rattle.items.specs.Items.{first, rest}
+use Rattle.line_reader.specs.declared.Line.{Line}
+use Rattle.line_reader.specs.declared.Line.the-variants as L
+use Rattle.line_reader.specs.Lines.{fieldIn}
+use Rattle.tape.specs.Tape.{LinesSay, tells, bad, with, capped, onward, sayLine, atLast, sayLines, textSays, Made, made, sheetOf, sheetMade, textMade, inRoom, tapeToSheet, sheetToTape}
+use Rattle.tape.specs.Tape as Tape
 use Rattle.price_rules.specs.Closing.{Answers, six, none-priced, answersOf}
 use Rattle.names.specs.Names.{metalName, tooLong}
 use Rattle.list_lines.specs.Listing.{space, lineFeed, line, refusal, answerLines, listText, listOf}
@@ -59,6 +66,10 @@ pub write-some : (b : List ℕ) (at : ℕ) (f : Field) (m place : ℕ) → writt
 unfolding written
 write-some b at f m place e = settled-some _ at m place tt _ e
 
+with-bad : (f : Field) (t : LinesSay) (n at : ℕ) → with f t ≡ bad n at → t ≡ bad n at
+with-bad f (tells fs) n at e = clash cc
+with-bad f (bad k l) n at e = cc
+
 -- a sheet
 stops-some : (p : Progress) (f : Field) (n : ℕ) → admit p f ≡ stops n → 0 < n
 unfolding admit admitted
@@ -83,6 +94,56 @@ sheet-some s n at e = by (earned s n at e)
     by (bad-shape {n = n} {at = at} {place = place} small b h) = shape-some s at n place h
     by (bad-field {n = n} {f = f} small b d h) = stops-some (b .progress) f n h
     by (trailing small b d h k) = omega arith
+
+-- ---- a text, and a sheet that is turned into one
+
+bad-some : (line : ℕ) (p : Progress) (l : List ℕ) (ls : List (List ℕ)) (n at : ℕ) → sayLines line p l ls ≡ bad n at → 0 < n
+unfolding sayLines atLast sayLine onward
+bad-some line p l [] n at e = by (eqb (length l) 0) (eqb (p .stage) 0) e
+  where
+    by : (t u : Bool) → cond t (cond u (bad 5 1) (tells [])) (bad 17 line) ≡ bad n at → 0 < n
+    by true true g = let z : 5 ≡ n = cc in omega arith
+    by true false g = clash cc
+    by false u g = let z : 17 ≡ n = cc in omega arith
+bad-some line p l (m ∷ ls) n at e = by (fieldIn l) e (λ q g. bad-some (line + 1) q m ls n at g)
+  where
+    step : (f : Field) (t : Step) → admit (capped p) f ≡ t → onward line f t (λ q. sayLines (line + 1) q m ls) ≡ bad n at → ((q : Progress) → sayLines (line + 1) q m ls ≡ bad n at → 0 < n) → 0 < n
+    step f (goes q) a g later = later q (with-bad f (sayLines (line + 1) q m ls) n at g)
+    step f ends a g later = let z : 17 ≡ n = cc in omega arith
+    step f (stops k) a g later = let z : k ≡ n = cc in omega (arith, stops-some (capped p) f k a)
+
+    by : (t : Line) → sayLine line p t (λ q. sayLines (line + 1) q m ls) ≡ bad n at → ((q : Progress) → sayLines (line + 1) q m ls ≡ bad n at → 0 < n) → 0 < n
+    by (L.Field f) g later = step f (admit (capped p) f) refl g later
+    by L.Malformed g later = let z : 17 ≡ n = cc in omega arith
+
+room-some : (room : ℕ) (m : Made) (n place : ℕ) → ((k : ℕ) (at : ℕ) → m ≡ Tape.refused k at → 0 < k) → inRoom room m ≡ Tape.refused n place → 0 < n
+unfolding inRoom
+room-some room (made s) n place some e = by (leb (length s) room) e
+  where
+    by : (t : Bool) → cond t (made s) (Tape.refused 16 0) ≡ Tape.refused n place → 0 < n
+    by true g = clash cc
+    by false g = let z : 16 ≡ n = cc in omega arith
+room-some room (Tape.refused k at) n place some e = let z : k ≡ n = cc in omega (arith, some k at refl)
+
+made-some : (t : LinesSay) → ((k at : ℕ) → t ≡ bad k at → 0 < k) → (n place : ℕ) → sheetMade t ≡ Tape.refused n place → 0 < n
+unfolding sheetMade
+made-some (tells fs) some n place e = by (leb (length (sheetOf fs)) 1048576) e
+  where
+    by : (t : Bool) → cond t (made (sheetOf fs)) (Tape.refused 1 0) ≡ Tape.refused n place → 0 < n
+    by true g = clash cc
+    by false g = let z : 1 ≡ n = cc in omega arith
+made-some (bad k at) some n place e = let z : k ≡ n = cc in omega (arith, some k at refl)
+
+pub tape-some : (room : ℕ) (x : List ℕ) (n place : ℕ) → tapeToSheet room x ≡ Tape.refused n place → 0 < n
+tape-some room x n place e = room-some room (sheetMade (textSays x)) n place (λ k at. made-some (textSays x) (bad-some 1 start (first 10 x) (rest 10 x)) k at) e
+
+turned-some : (fs : List Field) (v : Verdict) → ((k at : ℕ) → v ≡ refuses-at k at → 0 < k) → (n place : ℕ) → textMade fs v ≡ Tape.refused n place → 0 < n
+unfolding textMade
+turned-some fs (accepts day) some n place e = clash cc
+turned-some fs (refuses-at k at) some n place e = let z : k ≡ n = cc in omega (arith, some k at refl)
+
+pub untape-some : (room : ℕ) (s : List ℕ) (n place : ℕ) → sheetToTape room s ≡ Tape.refused n place → 0 < n
+untape-some room s n place e = room-some room (textMade (fieldsOf s) (judgeSheet s)) n place (turned-some (fieldsOf s) (judgeSheet s) (sheet-some s)) e
 
 -- ---- the list: every line has its line feed
 

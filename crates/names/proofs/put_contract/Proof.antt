@@ -1,54 +1,20 @@
 -- `names::put_contract` meets its contract. Assumes nothing.
 use mathlib.Core.Path.{ap, _∙_}
+use native.Mathlib.Omega.{arith}
 use borrow.Author.Needs.{needs}
 use Rattle.text.specs.Held.{held, _⊕_}
 use Rattle.names.specs.Names.{contractName}
-use Rattle.names.specs.laws.Names.{contract-none}
+use Rattle.names.specs.laws.Names.{contract-length, name-short, name-bytes}
 use Rattle.names.proofs.put_contract.Statement.{statement}
 use Rattle.names.proofs.put_contract.Tie as tie
 
+put-name-requires : tie.Need-put-name-requires
+put-name-requires c κs = name-short (contractName (c .before .args .contract)) _ (c .contract-name .ensures) (omega (arith, contract-length (c .before .args .contract)))
+
 returns : tie.Need-returns
-unfolding contractName
-returns c = c .put .ensures .holds ∙ simp (c .before .before .match .keys1)
-
-returns-2 : tie.Need-returns-2
-unfolding contractName
-returns-2 c = c .put2 .ensures .holds ∙ simp (c .before .before .match .keys2)
-
-returns-3 : tie.Need-returns-3
-unfolding contractName
-returns-3 c = c .put3 .ensures .holds ∙ simp (c .before .before .match .keys3)
-
-returns-4 : tie.Need-returns-4
-unfolding contractName
-returns-4 c = c .put4 .ensures .holds ∙ simp (c .before .before .match .keys4)
-
-returns-5 : tie.Need-returns-5
-unfolding contractName
-returns-5 c = c .put5 .ensures .holds ∙ simp (c .before .before .match .keys5)
-
-returns-6 : tie.Need-returns-6
-unfolding contractName
-returns-6 c = c .put6 .ensures .holds ∙ simp (c .before .before .match .keys6)
-
-returns-7 : tie.Need-returns-7
-returns-7 c = c .put7 .ensures .holds ∙ ap (λ s. held (c .before .before .before .args .t) ⊕ s) (contract-none _ (c .before .before .match .rest))
+returns c =
+    let start = c .before .before in
+    c .put-name .ensures ∙ ap (λ s. held (start .args .t) ⊕ s) (name-bytes _ _ (c .before .contract-name .ensures))
 
 pub put-contract-spec : {M : Type 1} → statement M
-put-contract-spec =
-    tie.close
-    (tie.spec
-    (λ c. search needs) (λ c κs. search needs)
-    (λ c. search needs) (λ c κs. search needs)
-    (λ c. search needs) (λ c κs. search needs)
-    (λ c. search needs) (λ c κs. search needs)
-    (λ c. search needs) (λ c κs. search needs)
-    (λ c. search needs) (λ c κs. search needs)
-    (λ c. search needs) (λ c κs. search needs)
-    returns
-    returns-2
-    returns-3
-    returns-4
-    returns-5
-    returns-6
-    returns-7)
+put-contract-spec = tie.close (tie.spec (λ c κs. search needs) put-name-requires returns)

@@ -1,20 +1,20 @@
 -- `names::put_method` meets its contract. Assumes nothing.
-use mathlib.Core.Path.{_∙_}
+use mathlib.Core.Path.{ap, _∙_}
+use native.Mathlib.Omega.{arith}
 use borrow.Author.Needs.{needs}
+use Rattle.text.specs.Held.{held, _⊕_}
+use Rattle.names.specs.Names.{methodName}
+use Rattle.names.specs.laws.Names.{method-length, name-short, name-bytes}
 use Rattle.names.proofs.put_method.Statement.{statement}
 use Rattle.names.proofs.put_method.Tie as tie
 
-returns : tie.Need-returns
-returns c = c .put .ensures .holds ∙ simp (c .before .before .enum-told .given .1)
+put-name-requires : tie.Need-put-name-requires
+put-name-requires c κs = name-short (methodName (c .before .args .method)) _ (c .method-name .ensures) (omega (arith, method-length (c .before .args .method)))
 
-returns-2 : tie.Need-returns-2
-returns-2 c = c .put2 .ensures .holds ∙ simp (c .before .before .enum-told2 .given .1)
+returns : tie.Need-returns
+returns c =
+    let start = c .before .before in
+    c .put-name .ensures ∙ ap (λ s. held (start .args .t) ⊕ s) (name-bytes _ _ (c .before .method-name .ensures))
 
 pub put-method-spec : {M : Type 1} → statement M
-put-method-spec =
-    tie.close
-    (tie.spec
-    (λ c. search needs) (λ c. search needs) (λ c κs. search needs)
-    (λ c. search needs) (λ c. search needs) (λ c κs. search needs)
-    returns
-    returns-2)
+put-method-spec = tie.close (tie.spec (λ c κs. search needs) put-name-requires returns)

@@ -1,11 +1,12 @@
 -- The numbers that have no name, how long a name can be, and that every metal of an accepted sheet has one. Assumes nothing.
-use Prim.Native.Nat.{ℕ, zero, suc, _≤_}
-use mathlib.Core.Path.{_≡_, refl, sym}
+use Prim.Native.Nat.{ℕ, zero, suc, _-_, _≤_}
+use mathlib.Core.Path.{_≡_, refl, sym, ap, _∙_}
 use mathlib.Core.Bool.{Bool, true}
-use mathlib.Core.List.{List, [], _∷_}
+use mathlib.Core.List.{List, [], _∷_, _++_}
 use native.Mathlib.Omega.{arith}
 use lib.Dec.{T, leb, leb→le}
-use lib.ListN.{getD, List·getD-eq-default, length}
+use lib.ListN.{getD, List·getD-eq-default, length, take, drop, replicate}
+use lib.Seq.{take-length, take-append-seam}
 use Rattle.market.specs.laws.Table.{both, both-left, both-right, from-one}
 use Rattle.field.specs.Judging.{headerRight}
 use Rattle.field.specs.laws.Sound.{metal-range}
@@ -14,7 +15,8 @@ use Rattle.sheet.specs.Judgement.{accepts, judgeSheet}
 use Rattle.sheet.specs.laws.Accepted.{accepted-right}
 use Rattle.price_rules.specs.declared.Method.{Method}
 use Rattle.price_rules.specs.declared.Method.the-variants.{Vwap, Twap}
-use Rattle.names.specs.Names.{metalNames, metalName, contractNames, contractName, methodName}
+use Rattle.names.specs.declared.Name.{Name}
+use Rattle.names.specs.Names.{metalNames, metalName, contractNames, contractName, instrumentNames, instrumentName, methodName, inName}
 
 -- ---- numbers that have no name, as the last arm of a `match` says that a number is none of the others
 
@@ -26,6 +28,34 @@ metal-none (suc m) h = sym (List·getD-eq-default metalNames [] {n = m} (omega (
 pub contract-none : (c : ℕ) → ((((((Unit {0} × (c ≡ 0 → ⊥)) × (c ≡ 1 → ⊥)) × (c ≡ 2 → ⊥)) × (c ≡ 3 → ⊥)) × (c ≡ 4 → ⊥)) × (c ≡ 5 → ⊥)) → [] ≡ contractName c
 unfolding contractName
 contract-none c h = sym (List·getD-eq-default contractNames [] {n = c} (omega (arith, h .0 .0 .0 .0 .0 .1, h .0 .0 .0 .0 .1, h .0 .0 .0 .1, h .0 .0 .1, h .0 .1, h .1)))
+
+pub instrument-none : (i : ℕ) → ((((((((((((Unit {0} × (i ≡ 0 → ⊥)) × (i ≡ 1 → ⊥)) × (i ≡ 2 → ⊥)) × (i ≡ 3 → ⊥)) × (i ≡ 4 → ⊥)) × (i ≡ 5 → ⊥)) × (i ≡ 6 → ⊥)) × (i ≡ 7 → ⊥)) × (i ≡ 8 → ⊥)) × (i ≡ 9 → ⊥)) × (i ≡ 10 → ⊥)) × (i ≡ 11 → ⊥)) → [] ≡ instrumentName i
+unfolding instrumentName
+instrument-none i h =
+    let low : 6 ≤ i = omega (arith, h .0 .0 .0 .0 .0 .0 .0 .0 .0 .0 .0 .1, h .0 .0 .0 .0 .0 .0 .0 .0 .0 .0 .1, h .0 .0 .0 .0 .0 .0 .0 .0 .0 .1, h .0 .0 .0 .0 .0 .0 .0 .0 .1, h .0 .0 .0 .0 .0 .0 .0 .1, h .0 .0 .0 .0 .0 .0 .1) in
+    sym (List·getD-eq-default instrumentNames [] {n = i} (omega (arith, h .0 .0 .0 .0 .0 .1, h .0 .0 .0 .0 .1, h .0 .0 .0 .1, h .0 .0 .1, h .0 .1, h .1)))
+
+-- ---- names by value
+
+-- bytes that are all a space
+abbrev blank : ℕ → List ℕ
+blank n = replicate n 32
+
+spaces : (k n : ℕ) → drop k (blank n) ≡ blank (n - k)
+spaces zero n = let z : n ≡ n - 0 = omega arith in ap blank z
+spaces (suc k) zero = let z : 0 ≡ 0 - suc k = omega arith in ap blank z
+spaces (suc k) (suc n) = let z : n - k ≡ suc n - suc k = omega arith in spaces k n ∙ ap blank z
+
+-- bytes copied over nine spaces are a name by value
+pub laid : (s out : List ℕ) (len : ℕ) → len ≡ length s → out ≡ take (length s) s ++ drop (length s) (blank 9) → _≡_ {A = Name} (record { bytes = out; len = len }) (inName s)
+laid s out len e f = let g : out ≡ s ++ blank (9 - length s) = f ∙ simp (take-length, spaces) in simp (e, g)
+
+-- and give the bytes back
+pub name-bytes : (s : List ℕ) (name : Name) → name ≡ inName s → take (name .len) (name .bytes) ≡ s
+name-bytes s name e = simp e (take-append-seam s (blank (9 - length s)))
+
+pub name-short : (s : List ℕ) (name : Name) → name ≡ inName s → length s ≤ 9 → name .len ≤ 9
+name-short s name e h = simp e h
 
 -- ---- lengths
 
@@ -47,6 +77,10 @@ metal-length (suc m) = name-length 9 metalNames tt m
 pub contract-length : (c : ℕ) → length (contractName c) ≤ 4
 unfolding contractName
 contract-length c = name-length 4 contractNames tt c
+
+pub instrument-length : (i : ℕ) → length (instrumentName i) ≤ 7
+unfolding instrumentName
+instrument-length i = name-length 7 instrumentNames tt i
 
 pub method-length : (m : Method) → length (methodName m) ≤ 4
 method-length Vwap = omega arith

@@ -1,9 +1,9 @@
--- `cases::print_part` meets its contract. Assumes nothing.
+-- `program_output::write_part` meets its contract. Assumes nothing.
 use lib.Seq.{length-take-le}
 use mathlib.Core.Path.{sym}
 use borrow.Author.Needs.{needs}
-use Rattle.cases.proofs.print_part.Statement.{statement}
-use Rattle.cases.proofs.print_part.Tie as tie
+use Rattle.program_output.proofs.write_part.Statement.{statement}
+use Rattle.program_output.proofs.write_part.Tie as tie
 
 slice-aggregate-write-all : tie.Need-slice-aggregate-write-all
 slice-aggregate-write-all c = sym (length-take-le _ _ (c .before .if1 .taken))
@@ -17,6 +17,6 @@ returns c = search needs
 returns-2 : tie.Need-returns-2
 returns-2 c = search needs
 
-pub print-part-spec : {M : Type 1} → statement M
-print-part-spec =
+pub write-part-spec : {M : Type 1} → statement M
+write-part-spec =
     tie.close (tie.spec slice-aggregate-write-all write-all-requires returns returns-2)

@@ -1,0 +1,3 @@
+pub mod Cases
+pub mod Dollars
+pub mod Examples

@@ -1,0 +1,335 @@
+-- Both round trips of a line. A field whose values earn no number is what its line says, and a line that says such a field is that field's line.
+--     line-read    fieldIn (lineOf f) is f
+--     read-line    lineOf f is the line
+-- Assumes nothing.
+use Prim.Native.Nat.{ℕ, zero, suc, _+_, _-_, _*_, _/_, _%_, _^_, _≤_, _<_}
+use mathlib.Core.Bool.{Bool, true, false, cond}
+use mathlib.Core.Path.{_≡_, refl, sym, ap, _∙_}
+use mathlib.Core.List.{List, [], _∷_}
+use native.Mathlib.Omega.{arith}
+use lib.Dec.{eqb, leb}
+use lib.IntN.{ℤ, pos, negsuc, natAbs}
+use lib.Signed.{leZ}
+use mathlib.Core.Logic.{_⊎_, inl, inr, ⊎-elim}
+use borrow.Author.Tests.{leb-true}
+use Rattle.text.specs.Ascii.{ascii}
+use Rattle.text.specs.Decimal.{decimal}
+use Rattle.numerals.specs.declared.Number.{Number}
+use Rattle.numerals.specs.declared.Number.the-variants as N
+use Rattle.numerals.specs.Numerals.{isDigit, number, given}
+use Rattle.numerals.specs.laws.Lacks.{lacks}
+use Rattle.numerals.specs.laws.Numerals.{clash, writes-read, reads-written, number-lacks}
+use Rattle.field.specs.declared.Price.{Price}
+use Rattle.field.specs.declared.Field.{Field}
+use Rattle.field.specs.declared.Field.the-variants as F
+use Rattle.field.specs.Judging.{fine, both, pick, centsWithin, ifAbsent, ifPresent, priceRight, hasBid, hasOffer, judge}
+use Rattle.field.specs.laws.Field.{both-true, within-true}
+use Rattle.field.specs.laws.Sound.{Sound, SoundQuote, sound, price-size, sides-size}
+use Rattle.dollars.specs.declared.Money.{Money}
+use Rattle.dollars.specs.declared.Money.the-variants as M
+use Rattle.dollars.specs.Dollars.{pointed, cents, priced, price, priceText}
+use Rattle.dollars.specs.laws.Cases.{given-is}
+use Rattle.dollars.specs.laws.Dollars.{Odd, price-written, price-read, price-lacks}
+use Rattle.names.specs.Names.{same, metalIn, instrumentIn, metalName, instrumentName}
+use Rattle.names.specs.laws.Finding.{same-is, instrument-known, instrument-found, metal-known, metal-found}
+use Rattle.items.specs.Items.{items, joined}
+use Rattle.items.specs.laws.Items.{Plain, items-join, join-items, joined-lacks}
+use Rattle.line_reader.specs.declared.Side.{Side}
+use Rattle.line_reader.specs.declared.Side.the-variants as S
+use Rattle.line_reader.specs.declared.Line.{Line}
+use Rattle.line_reader.specs.declared.Line.the-variants.{Field as Says, Malformed}
+use Rattle.line_reader.specs.Lines.{paid, sided, sideIn, tradeIn, quoteIn, headerIn, previousIn, three, five, fieldOfItems, fieldIn, sideText, itemsOf, lineOf}
+use Rattle.line_reader.specs.laws.Cases.{trade-all, quote-all, metal-all, previous-all, side-bit}
+
+-- ---- numbers and sides written
+
+told : (most n : ℕ) → n ≤ most → n < 10 ^ 19 → number most (decimal n) ≡ N.Value n
+told most n l h = reads-written most n (omega arith) l
+
+plain : (c n : ℕ) → isDigit c ≡ false → n < 10 ^ 19 → lacks c (decimal n) ≡ true
+plain c n d h = number-lacks c n n (decimal n) d (told n n (omega arith) h)
+
+bitOf : Bool → ℕ
+bitOf true = 1
+bitOf false = 0
+
+no-dash : (z : ℤ) → natAbs z < 1000000000 → same (ascii "-") (priceText z) ≡ false
+unfolding price cents pointed
+no-dash z h = by-test (same (ascii "-") (priceText z)) refl
+  where
+    by-test : (t : Bool) → same (ascii "-") (priceText z) ≡ t → t ≡ false
+    by-test true e =
+        let p : ascii "-" ≡ priceText z = same-is (ascii "-") (priceText z) e in
+        let w : price (ascii "-") ≡ M.Cents (priced z) = ap price p ∙ price-written z h in
+        clash cc
+    by-test false e = refl
+
+zero-cents : (p : Price) → centsWithin (pos 0) (pos 0) p ≡ true → priced (pos 0) ≡ p
+zero-cents p e = at (p .cents) (both-true (leZ (pos 0) (p .cents)) (leZ (p .cents) (pos 0)) e)
+  where
+    at : (z : ℤ) → (leZ (pos 0) z ≡ true) × (leZ z (pos 0) ≡ true) → priced (pos 0) ≡ priced z
+    at (pos n) h = ap (λ (v : ℕ). priced (pos v)) (omega (arith, leb-true n 0 (h .1)))
+    at (negsuc n) h = clash (cc (h .0))
+
+side-written : (present : Bool) (p : Price) → natAbs (p .cents) ≤ 99999999 → ifAbsent present (centsWithin (pos 0) (pos 0) p) ≡ true → sideIn (sideText present p) ≡ S.Is (bitOf present) p
+unfolding sideIn sideText bitOf pick same
+side-written true p h e = simp (no-dash (p .cents) (omega arith), price-written (p .cents) (omega arith))
+side-written false p h e = ap (λ (v : Price). S.Is 0 v) (zero-cents p e)
+
+sides-back : (sides : ℕ) → sides ≤ 3 → bitOf (hasBid sides) + 2 * bitOf (hasOffer sides) ≡ sides
+unfolding bitOf
+sides-back zero h = refl
+sides-back (suc zero) h = refl
+sides-back (suc (suc zero)) h = refl
+sides-back (suc (suc (suc zero))) h = refl
+sides-back (suc (suc (suc (suc n)))) h = absurd (omega arith)
+
+-- ---- what a line's items say
+
+-- every field but the end has a line
+abbrev pub Lined : Field → Type 0
+Lined (F.Header metal marks) = Unit {0}
+Lined (F.PreviousClose instrument p) = Unit {0}
+Lined (F.Trade time instrument p lots) = Unit {0}
+Lined (F.Quote time instrument sides bid offer) = Unit {0}
+Lined (F.End count) = ⊥
+
+-- a byte that stands in no item: a comma, a line feed
+pub record Free (c : ℕ) : Type 0 where
+  pub odd : Odd c
+  pub words : (lacks c (ascii "METAL") ≡ true) × (lacks c (ascii "PREV") ≡ true) × (lacks c (ascii "TRADE") ≡ true) × (lacks c (ascii "QUOTE") ≡ true) × (lacks c (ascii "-") ≡ true)
+  pub instruments : (i : ℕ) → i ≤ 11 → lacks c (instrumentName i) ≡ true
+  pub metals : (m : ℕ) → 1 ≤ m → m ≤ 5 → lacks c (metalName m) ≡ true
+
+free-44 : Free 44
+unfolding isDigit
+free-44 = record { odd = record { digits = refl; point = refl; minus = refl }; words = (refl, refl, refl, refl, refl); instruments = λ i h. instrument-known i h .plain; metals = λ m l h. metal-known m l h .plain }
+
+free-10 : Free 10
+unfolding isDigit
+free-10 = record { odd = record { digits = refl; point = refl; minus = refl }; words = (refl, refl, refl, refl, refl); instruments = λ i h. instrument-known i h .one-line; metals = λ m l h. metal-known m l h .one-line }
+
+module _ (c : ℕ) (w : Free c) where
+  free-side : (present : Bool) (p : Price) → natAbs (p .cents) ≤ 99999999 → lacks c (sideText present p) ≡ true
+  unfolding sideText
+  free-side true p h = price-lacks c (p .cents) (w .odd) (omega arith)
+  free-side false p h = w .words .4
+
+  free-items : (least : ℕ) (f : Field) → Sound least f → Plain c (itemsOf f)
+  unfolding itemsOf
+  free-items least (F.Header metal marks) h =
+      let u = both-true _ (leb marks 2047) h in
+      let m = within-true 1 5 metal (u .0) in
+      let k = leb-true marks 2047 (u .1) in
+      (w .words .0, (w .metals metal (m .0) (m .1), (plain c marks (w .odd .digits) (omega arith), tt)))
+  free-items least (F.PreviousClose instrument p) h =
+      (w .words .1, (w .instruments instrument (h .0), (price-lacks c (p .cents) (w .odd) (omega (arith, price-size instrument p (h .1))), tt)))
+  free-items least (F.Trade time instrument p lots) h =
+      let t = h .stamp .in-day in
+      let m = h .most in
+      (plain c time (w .odd .digits) (omega arith), (w .instruments instrument (h .stamp .instrument-in), (w .words .2, (price-lacks c (p .cents) (w .odd) (omega (arith, price-size instrument p (h .price-in))), (plain c lots (w .odd .digits) (omega arith), tt)))))
+  free-items least (F.Quote time instrument sides bid offer) h =
+      let t = h .stamp .in-day in
+      let z = sides-size least time instrument sides bid offer h in
+      (plain c time (w .odd .digits) (omega arith), (w .instruments instrument (h .stamp .instrument-in), (w .words .3, (free-side (hasBid sides) bid (z .0), (free-side (hasOffer sides) offer (z .1), tt)))))
+  free-items least (F.End count) h = tt
+
+-- no line holds a line feed
+pub line-lacks : (least : ℕ) (f : Field) → judge least f ≡ fine → lacks 10 (lineOf f) ≡ true
+unfolding lineOf
+line-lacks least f e = joined-lacks 44 10 (itemsOf f) refl (free-items 10 free-10 least f (sound least f e))
+
+written : (least : ℕ) (f : Field) → Sound least f → Lined f → fieldOfItems (itemsOf f) ≡ Says f
+unfolding itemsOf fieldOfItems three five same
+written least (F.Header metal marks) h l =
+    let u = both-true _ (leb marks 2047) h in
+    let m = within-true 1 5 metal (u .0) in
+    let k = leb-true marks 2047 (u .1) in
+    let w = metal-known metal (m .0) (m .1) in
+    sym (metal-all (metalName metal) (decimal marks) _ metal refl (w .found) _ marks refl (told 65535 marks (omega arith) (omega arith)))
+written least (F.PreviousClose instrument p) h l =
+    let w = instrument-known instrument (h .0) in
+    let z : natAbs (p .cents) < 1000000000 = omega (arith, price-size instrument p (h .1)) in
+    sym (previous-all (instrumentName instrument) (priceText (p .cents)) _ instrument refl (w .found) _ p refl (price-written (p .cents) z))
+written least (F.Trade time instrument p lots) h l =
+    let w = instrument-known instrument (h .stamp .instrument-in) in
+    let z : natAbs (p .cents) < 1000000000 = omega (arith, price-size instrument p (h .price-in)) in
+    let t = h .stamp .in-day in
+    let m = h .most in
+    sym (trade-all (decimal time) (instrumentName instrument) (priceText (p .cents)) (decimal lots)
+    _ time refl (told 4294967295 time (omega arith) (omega arith)) _ instrument refl (w .found) _ p refl (price-written (p .cents) z) _ lots refl (told 65535 lots (omega arith) (omega arith)))
+written least (F.Quote time instrument sides bid offer) h l =
+    let w = instrument-known instrument (h .stamp .instrument-in) in
+    let t = h .stamp .in-day in
+    let z = sides-size least time instrument sides bid offer h in
+    let s = both-true (leb sides 3) _ (h .sides-in) in
+    let a = both-true _ _ (s .1) in
+    sym (quote-all (decimal time) (instrumentName instrument) (sideText (hasBid sides) bid) (sideText (hasOffer sides) offer)
+    _ time refl (told 4294967295 time (omega arith) (omega arith)) _ instrument refl (w .found)
+    _ (bitOf (hasBid sides)) bid refl (side-written (hasBid sides) bid (z .0) (a .0))
+    _ (bitOf (hasOffer sides)) offer refl (side-written (hasOffer sides) offer (z .1) (a .1)))
+    ∙ ap (λ (v : ℕ). Says (F.Quote time instrument v bid offer)) (sides-back sides (leb-true sides 3 (s .0)))
+written least (F.End count) h l = absurd l
+
+again : (f : Field) → Plain 44 (itemsOf f) → Lined f → items (joined 44 (itemsOf f)) ≡ itemsOf f
+unfolding itemsOf
+again (F.Header metal marks) p l = items-join 44 _ _ p
+again (F.PreviousClose instrument q) p l = items-join 44 _ _ p
+again (F.Trade time instrument q lots) p l = items-join 44 _ _ p
+again (F.Quote time instrument sides bid offer) p l = items-join 44 _ _ p
+again (F.End count) p l = absurd l
+
+pub line-read : (least : ℕ) (f : Field) → judge least f ≡ fine → Lined f → fieldIn (lineOf f) ≡ Says f
+unfolding fieldIn lineOf
+line-read least f e l =
+    let h = sound least f e in
+    ap fieldOfItems (again f (free-items 44 free-44 least f h) l) ∙ written least f h l
+
+-- ---- what the items were
+
+never : (f : Field) → Malformed ≡ Says f → ⊥
+never f e = clash cc
+
+record Paid (r : Money) (more : Price → Line) (y : Line) : Type 0 where
+  p : Price
+  is : r ≡ M.Cents p
+  rest : more p ≡ y
+
+paid-is : (r : Money) (more : Price → Line) (f : Field) → paid Malformed r more ≡ Says f → Paid r more (Says f)
+paid-is (M.Cents p) more f e = record { p = p; is = refl; rest = e }
+paid-is M.Malformed more f e = absurd (never f e)
+
+record Sided (r : Side) (more : ℕ → Price → Line) (y : Line) : Type 0 where
+  bit : ℕ
+  p : Price
+  is : r ≡ S.Is bit p
+  rest : more bit p ≡ y
+
+sided-is : (r : Side) (more : ℕ → Price → Line) (f : Field) → sided Malformed r more ≡ Says f → Sided r more (Says f)
+sided-is (S.Is b p) more f e = record { bit = b; p = p; is = refl; rest = e }
+sided-is S.Malformed more f e = absurd (never f e)
+
+-- the sound values of the field that a line says
+of-same : (least : ℕ) (f g : Field) → Says g ≡ Says f → judge least f ≡ fine → (g ≡ f) × Sound least g
+of-same least f g e j = let q : g ≡ f = cc in (q, sound least g (ap (judge least) q ∙ j))
+
+metal-back : (least : ℕ) (a b : List ℕ) (f : Field) → headerIn a b ≡ Says f → judge least f ≡ fine → itemsOf f ≡ ascii "METAL" ∷ a ∷ b ∷ []
+unfolding headerIn itemsOf
+metal-back least a b f e j =
+    let g = given-is (metalIn a) Malformed _ (Says f) (never f) e in
+    let k = given-is (number 65535 b) Malformed _ (Says f) (never f) (g .rest) in
+    let s = of-same least f _ (k .rest) j in
+    let m = leb-true (k .n) 2047 (both-true _ (leb (k .n) 2047) (s .1) .1) in
+    let u = metal-found a (g .n) (g .is) .2 in
+    let v = writes-read 65535 (k .n) b (omega arith) (k .is) (omega arith) in
+    ap itemsOf (sym (s .0)) ∙ simp (u, v)
+
+previous-back : (least : ℕ) (a b : List ℕ) (f : Field) → previousIn a b ≡ Says f → judge least f ≡ fine → itemsOf f ≡ ascii "PREV" ∷ a ∷ b ∷ []
+unfolding previousIn itemsOf
+previous-back least a b f e j =
+    let g = given-is (instrumentIn a) Malformed _ (Says f) (never f) e in
+    let k = paid-is (price b) _ f (g .rest) in
+    let s = of-same least f _ (k .rest) j in
+    let z = price-size (g .n) (k .p) (s .1 .1) in
+    let u = instrument-found a (g .n) (g .is) .1 in
+    let v = price-read b (k .p) (k .is) (omega arith) in
+    ap itemsOf (sym (s .0)) ∙ simp (u, v)
+
+trade-back : (least : ℕ) (a b c d : List ℕ) (f : Field) → tradeIn a b c d ≡ Says f → judge least f ≡ fine → itemsOf f ≡ a ∷ b ∷ ascii "TRADE" ∷ c ∷ d ∷ []
+unfolding tradeIn itemsOf
+trade-back least a b c d f e j =
+    let t = given-is (number 4294967295 a) Malformed _ (Says f) (never f) e in
+    let g = given-is (instrumentIn b) Malformed _ (Says f) (never f) (t .rest) in
+    let k = paid-is (price c) _ f (g .rest) in
+    let l = given-is (number 65535 d) Malformed _ (Says f) (never f) (k .rest) in
+    let s = of-same least f _ (l .rest) j in
+    let z = price-size (g .n) (k .p) (s .1 .price-in) in
+    let u = writes-read 4294967295 (t .n) a (omega arith) (t .is) (omega (arith, s .1 .stamp .in-day)) in
+    let v = instrument-found b (g .n) (g .is) .1 in
+    let w = price-read c (k .p) (k .is) (omega arith) in
+    let x = writes-read 65535 (l .n) d (omega arith) (l .is) (omega (arith, s .1 .most)) in
+    ap itemsOf (sym (s .0)) ∙ simp (u, v, w, x)
+
+-- a side is a dash, or a price
+record SideBack (s : List ℕ) (b : ℕ) (p : Price) : Type 0 where
+  bit : ((b ≡ 0) × (ascii "-" ≡ s)) ⊎ ((b ≡ 1) × (price s ≡ M.Cents p))
+
+side-is : (s : List ℕ) (b : ℕ) (p : Price) → sideIn s ≡ S.Is b p → SideBack s b p
+unfolding sideIn
+side-is s b p e = by-test (same (ascii "-") s) refl (price s) refl e
+  where
+    by-test : (t : Bool) → same (ascii "-") s ≡ t → (m : Money) → price s ≡ m → cond t (S.Is 0 (priced (pos 0))) (paid S.Malformed m (λ q. S.Is 1 q)) ≡ S.Is b p → SideBack s b p
+    by-test true h m q g = record { bit = inl (cc, same-is (ascii "-") s h) }
+    by-test false h (M.Cents r) q g = record { bit = inr (cc, cc) }
+    by-test false h M.Malformed q g = clash cc
+
+side-back : (s : List ℕ) (b : ℕ) (p : Price) (present : Bool) → sideIn s ≡ S.Is b p → natAbs (p .cents) ≤ 99999999 → bitOf present ≡ b → sideText present p ≡ s
+unfolding sideText bitOf
+side-back s b p present e h q = ⊎-elim (λ w. dash present w q) (λ w. some present w q) (side-is s b p e .bit)
+  where
+    dash : (present : Bool) → (b ≡ 0) × (ascii "-" ≡ s) → bitOf present ≡ b → cond present (priceText (p .cents)) (ascii "-") ≡ s
+    dash true w q = absurd (omega (arith, w .0))
+    dash false w q = w .1
+
+    some : (present : Bool) → (b ≡ 1) × (price s ≡ M.Cents p) → bitOf present ≡ b → cond present (priceText (p .cents)) (ascii "-") ≡ s
+    some true w q = price-read s p (w .1) (omega arith)
+    some false w q = absurd (omega (arith, w .0))
+
+-- both bits, read off their sum
+bits : (x y : ℕ) → x ≤ 1 → y ≤ 1 → (bitOf (hasBid (x + 2 * y)) ≡ x) × (bitOf (hasOffer (x + 2 * y)) ≡ y)
+unfolding bitOf
+bits zero zero h g = (refl, refl)
+bits zero (suc zero) h g = (refl, refl)
+bits (suc zero) zero h g = (refl, refl)
+bits (suc zero) (suc zero) h g = (refl, refl)
+bits (suc (suc x)) y h g = absurd (omega arith)
+bits zero (suc (suc y)) h g = absurd (omega arith)
+bits (suc zero) (suc (suc y)) h g = absurd (omega arith)
+
+quote-back : (least : ℕ) (a b c d : List ℕ) (f : Field) → quoteIn a b c d ≡ Says f → judge least f ≡ fine → itemsOf f ≡ a ∷ b ∷ ascii "QUOTE" ∷ c ∷ d ∷ []
+unfolding quoteIn itemsOf
+quote-back least a b c d f e j =
+    let t = given-is (number 4294967295 a) Malformed _ (Says f) (never f) e in
+    let g = given-is (instrumentIn b) Malformed _ (Says f) (never f) (t .rest) in
+    let k = sided-is (sideIn c) _ f (g .rest) in
+    let l = sided-is (sideIn d) _ f (k .rest) in
+    let s = of-same least f _ (l .rest) j in
+    let z = sides-size least (t .n) (g .n) (k .bit + 2 * l .bit) (k .p) (l .p) (s .1) in
+    let y = bits (k .bit) (l .bit) (side-bit c (k .bit) (k .p) (k .is)) (side-bit d (l .bit) (l .p) (l .is)) in
+    let u = writes-read 4294967295 (t .n) a (omega arith) (t .is) (omega (arith, s .1 .stamp .in-day)) in
+    let v = instrument-found b (g .n) (g .is) .1 in
+    let w = side-back c (k .bit) (k .p) _ (k .is) (z .0) (y .0) in
+    let x = side-back d (l .bit) (l .p) _ (l .is) (z .1) (y .1) in
+    ap itemsOf (sym (s .0)) ∙ simp (u, v, w, x)
+
+three-back : (least : ℕ) (a b c : List ℕ) (f : Field) → three a b c ≡ Says f → judge least f ≡ fine → itemsOf f ≡ a ∷ b ∷ c ∷ []
+unfolding three
+three-back least a b c f e j = by-test (same (ascii "METAL") a) refl (same (ascii "PREV") a) refl e
+  where
+    by-test : (t : Bool) → same (ascii "METAL") a ≡ t → (u : Bool) → same (ascii "PREV") a ≡ u → cond t (headerIn b c) (cond u (previousIn b c) Malformed) ≡ Says f → itemsOf f ≡ a ∷ b ∷ c ∷ []
+    by-test true h u g q = metal-back least b c f q j ∙ ap (λ (v : List ℕ). v ∷ b ∷ c ∷ []) (same-is (ascii "METAL") a h)
+    by-test false h true g q = previous-back least b c f q j ∙ ap (λ (v : List ℕ). v ∷ b ∷ c ∷ []) (same-is (ascii "PREV") a g)
+    by-test false h false g q = absurd (never f q)
+
+five-back : (least : ℕ) (a b c d e : List ℕ) (f : Field) → five a b c d e ≡ Says f → judge least f ≡ fine → itemsOf f ≡ a ∷ b ∷ c ∷ d ∷ e ∷ []
+unfolding five
+five-back least a b c d e f i j = by-test (same (ascii "TRADE") c) refl (same (ascii "QUOTE") c) refl i
+  where
+    by-test : (t : Bool) → same (ascii "TRADE") c ≡ t → (u : Bool) → same (ascii "QUOTE") c ≡ u → cond t (tradeIn a b d e) (cond u (quoteIn a b d e) Malformed) ≡ Says f → itemsOf f ≡ a ∷ b ∷ c ∷ d ∷ e ∷ []
+    by-test true h u g q = trade-back least a b d e f q j ∙ ap (λ (v : List ℕ). a ∷ b ∷ v ∷ d ∷ e ∷ []) (same-is (ascii "TRADE") c h)
+    by-test false h true g q = quote-back least a b d e f q j ∙ ap (λ (v : List ℕ). a ∷ b ∷ v ∷ d ∷ e ∷ []) (same-is (ascii "QUOTE") c g)
+    by-test false h false g q = absurd (never f q)
+
+items-back : (least : ℕ) (is : List (List ℕ)) (f : Field) → fieldOfItems is ≡ Says f → judge least f ≡ fine → itemsOf f ≡ is
+unfolding fieldOfItems
+items-back least [] f e j = absurd (never f e)
+items-back least (a ∷ []) f e j = absurd (never f e)
+items-back least (a ∷ b ∷ []) f e j = absurd (never f e)
+items-back least (a ∷ b ∷ c ∷ []) f e j = three-back least a b c f e j
+items-back least (a ∷ b ∷ c ∷ d ∷ []) f e j = absurd (never f e)
+items-back least (a ∷ b ∷ c ∷ d ∷ i ∷ []) f e j = five-back least a b c d i f e j
+items-back least (a ∷ b ∷ c ∷ d ∷ i ∷ k ∷ is) f e j = absurd (never f e)
+
+pub read-line : (least : ℕ) (s : List ℕ) (f : Field) → fieldIn s ≡ Says f → judge least f ≡ fine → lineOf f ≡ s
+unfolding fieldIn lineOf
+read-line least s f e j = ap (joined 44) (items-back least (items s) f e j) ∙ join-items 44 s

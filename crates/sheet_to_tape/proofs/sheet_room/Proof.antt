@@ -1,0 +1,11 @@
+-- `sheet_to_tape::sheet_room` meets its contract. Assumes nothing.
+use Prim.Native.Nat.{ℕ}
+use lib.ListN.{length-replicate}
+use Rattle.sheet_to_tape.proofs.sheet_room.Statement.{statement}
+use Rattle.sheet_to_tape.proofs.sheet_room.Tie as tie
+
+returns : tie.Need-returns
+returns c = length-replicate {A = ℕ} 1048577 0
+
+pub sheet-room-spec : {M : Type 1} → statement M
+sheet-room-spec = tie.close (tie.spec returns)

@@ -1,0 +1,4 @@
+pub mod Measuring
+pub mod Track
+pub mod Taken
+pub mod Filling
