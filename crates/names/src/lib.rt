@@ -153,8 +153,49 @@ pub fn metal_in(s: &[u8]) -> Number
     Number::Malformed
 }
 
-// An instrument's number, 0 to 11, by its name.
-pub fn instrument_in(s: &[u8]) -> Number
+// The one instrument, 0 to 11, whose name the bytes can be, by their number and by two of them.
+fn likely_instrument(s: &[u8]) -> u8
+    ensures { λ r. ⌜ r ≤ 11 ⌝ }
+{
+    if s.len() == 2 {
+        return 0;
+    }
+    if s.len() != 5 {
+        return 11;
+    }
+    match s[4] {
+        50 => 7,
+        51 => if s[1] == 50 { 3 } else { 8 },
+        52 => likely_with_m4(s[1]),
+        _ => likely_with_3m(s[1]),
+    }
+}
+
+// M2-M4, M3-M4, 3M-M4 or M1-M4, by the second byte.
+fn likely_with_m4(second: u8) -> u8
+    ensures { λ r. ⌜ r ≤ 11 ⌝ }
+{
+    match second {
+        50 => 4,
+        51 => 5,
+        77 => 6,
+        _ => 10,
+    }
+}
+
+// M3-3M, M2-3M or M1-3M, by the second byte.
+fn likely_with_3m(second: u8) -> u8
+    ensures { λ r. ⌜ r ≤ 11 ⌝ }
+{
+    match second {
+        51 => 1,
+        50 => 2,
+        _ => 9,
+    }
+}
+
+// An instrument's number, 0 to 11, by its name: name after name.
+fn seek_instrument(s: &[u8]) -> Number
     ensures { λ r. ⌜ r ≡ instrumentIn (now (s .entry)) ⌝ }
 {
     let mut instrument: u8 = 0;
@@ -165,4 +206,15 @@ pub fn instrument_in(s: &[u8]) -> Number
         instrument += 1;
     }
     Number::Malformed
+}
+
+// The same, with the likely one asked first.
+pub fn instrument_in(s: &[u8]) -> Number
+    ensures { λ r. ⌜ r ≡ instrumentIn (now (s .entry)) ⌝ }
+{
+    let likely = likely_instrument(s);
+    if is_held(s, instrument_name(likely)) {
+        return Number::Value(likely as u32);
+    }
+    seek_instrument(s)
 }

@@ -176,3 +176,7 @@ instrument-known i h = known (instrumentIn (instrumentName i)) (instrumentName i
 pub metal-known : (m : ℕ) → 1 ≤ m → m ≤ 5 → Known (metalIn (metalName m)) (metalName m) m
 unfolding metalIn metalName same
 metal-known m l h = known (metalIn (metalName m)) (metalName m) m (from-one (λ m. knows (metalIn (metalName m)) (metalName m) m) 5 m tt l h)
+
+-- so the bytes of a known name have its number
+pub instrument-is : (i : ℕ) (s : List ℕ) → i ≤ 11 → same (instrumentName i) s ≡ true → Value i ≡ instrumentIn s
+instrument-is i s h e = sym (instrument-known i h .found) ∙ ap instrumentIn (same-is (instrumentName i) s e)

@@ -6,14 +6,5 @@ use Rattle.tape.proofs.at_last.Tie as tie
 
 ruleset judging = (last-more, last-none, last-good, needs)
 
-returns : tie.Need-returns
-returns c = search judging
-
-returns-2 : tie.Need-returns-2
-returns-2 c = search judging
-
-returns-3 : tie.Need-returns-3
-returns-3 c = search judging
-
 pub at-last-spec : {M : Type 1} → statement M
-at-last-spec = tie.close (tie.spec returns returns-2 returns-3)
+at-last-spec = tie.close (tie.spec (λ c. search judging) (λ c. search judging) (λ c. search judging))

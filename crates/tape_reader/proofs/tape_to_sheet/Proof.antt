@@ -16,9 +16,6 @@ returns-2 c =
     let a = c .before .before .before .before .before .before .before .before .args in
     room-refused (now (a .text)) (now (a .sheet)) (c .before .before .before .before .before .judge-tape .ensures) _ (c .before .before .before .bytes .given .1) (c .before .if1 .left) (c .if2 .taken)
 
-put-sheet-requires : tie.Need-put-sheet-requires
-put-sheet-requires c κs = search (fitting, needs)
-
 returns-3 : tie.Need-returns-3
 returns-3 c =
     let a = c .before .before .before .before .before .before .args in
@@ -40,7 +37,7 @@ tape-to-sheet-spec =
     (λ c. search needs)
     (λ c. search needs)
     returns-2
-    put-sheet-requires
+    (λ c κs. search (fitting, needs))
     returns-3
     (λ c. search needs)
     returns-4)

@@ -13,32 +13,8 @@ Inv-loop sheet tape₀ from₀ at₀ tape from at = Lining sheet tape₀ from at
 abbrev μ-loop : tie.MeasureT-loop
 μ-loop sheet tape₀ from₀ at₀ tape from at = left sheet from
 
-loop-holds : tie.Need-loop-holds Inv-loop μ-loop
-loop-holds c = search lining
-
-shape-at-requires : tie.Need-shape-at-requires Inv-loop μ-loop
-shape-at-requires c κs = search lining
-
-enum-told : tie.Need-enum-told Inv-loop μ-loop
-enum-told c = search lining
-
-same-length : tie.Need-same-length Inv-loop μ-loop
-same-length c = search lining
-
 returns : tie.Need-returns Inv-loop μ-loop
 returns c = line-stop _ _ _ _ _ (c .before .before .before .loop .inv) (c .before .before .shape-at .ensures) (c .enum-told .given .1)
-
-enum-known-field : tie.Need-enum-known-field Inv-loop μ-loop
-enum-known-field c = search lining
-
-put-line-requires : tie.Need-put-line-requires Inv-loop μ-loop
-put-line-requires c κs = search lining
-
-loop-less : tie.Need-loop-less Inv-loop μ-loop
-loop-less c = search lining
-
-loop-again : tie.Need-loop-again Inv-loop μ-loop
-loop-again c = search lining
 
 pub put-lines-spec : {M : Type 1} → statement M
 put-lines-spec =
@@ -46,12 +22,12 @@ put-lines-spec =
     (tie.spec
     Inv-loop
     μ-loop
-    loop-holds
-    shape-at-requires
-    enum-told
-    same-length
+    (λ c. search lining)
+    (λ c κs. search lining)
+    (λ c. search lining)
+    (λ c. search lining)
     returns
-    enum-known-field
-    put-line-requires
-    loop-less
-    loop-again)
+    (λ c. search lining)
+    (λ c κs. search lining)
+    (λ c. search lining)
+    (λ c. search lining))
