@@ -1,2 +1,3 @@
 pub mod Cases
 pub mod Trips
+pub mod Pieces

@@ -12,9 +12,8 @@ use field::Field;
 use field::layout::size_of;
 use field::layout::tag_of;
 use field::number;
-use items::end_of;
-use line_reader::Line;
-use line_reader::read_line;
+use next_line::NextLine;
+use next_line::next_line;
 
 // A text that is accepted, with the bytes of its fields, which stop rising at one above the limit; or a number and a line.
 pub enum Measured {
@@ -80,15 +79,14 @@ pub fn judge_tape(text: &[u8]) -> Measured
     let mut bytes: u32 = 0;
     let mut progress = begin();
     loop {
-        let end = end_of(text, at, 10);
-        if text.len() <= end {
-            return at_last(text.len() - at, line, progress, bytes);
-        }
-        match read_line(&text[at..end]) {
-            Line::Malformed => {
+        match next_line(text, at) {
+            NextLine::Last => {
+                return at_last(text.len() - at, line, progress, bytes);
+            }
+            NextLine::Malformed => {
                 return Measured::Refused(number::LINE, line);
             }
-            Line::Field(field) => match admit(capped_at(progress), field) {
+            NextLine::Field(field, next) => match admit(capped_at(progress), field) {
                 Admitted::Refused(found) => {
                     return Measured::Refused(found, line);
                 }
@@ -99,7 +97,7 @@ pub fn judge_tape(text: &[u8]) -> Measured
                     progress = after;
                     bytes = grown_by(bytes, field);
                     line += 1;
-                    at = end + 1;
+                    at = next;
                 }
             },
         }

@@ -10,9 +10,8 @@ use field::Field;
 use field::layout::size_of;
 use field::layout::tag_of;
 use field::number;
-use items::end_of;
-use line_reader::Line;
-use line_reader::read_line;
+use next_line::NextLine;
+use next_line::next_line;
 use raw_writer::put_field;
 use tape::Filled;
 use tape::Measured;
@@ -42,18 +41,17 @@ fn put_fields(text: &[u8], sheet: &mut [u8]) -> Laid
     let mut at = 0;
     let mut count: u32 = 0;
     loop {
-        let end = end_of(text, from, 10);
-        if text.len() <= end {
-            return Laid { at, count };
-        }
-        match read_line(&text[from..end]) {
-            Line::Malformed => {
+        match next_line(text, from) {
+            NextLine::Last => {
                 return Laid { at, count };
             }
-            Line::Field(field) => {
+            NextLine::Malformed => {
+                return Laid { at, count };
+            }
+            NextLine::Field(field, next) => {
                 at = put_at(sheet, at, field);
                 count += 1;
-                from = end + 1;
+                from = next;
             }
         }
     }

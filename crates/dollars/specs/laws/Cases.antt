@@ -1,11 +1,11 @@
 -- The cases of the definitions: as the code meets them, and as an answer tells them. Assumes nothing.
-use Prim.Native.Nat.{ℕ, zero, suc, _+_, _-_, _*_, _^_, _≤_, _<_}
+use Prim.Native.Nat.{ℕ, zero, suc, _+_, _-_, _*_, _^_, _<_}
 use mathlib.Core.Bool.{Bool, true, false, not, cond}
 use mathlib.Core.Path.{_≡_, refl, sym, ap, _∙_}
 use mathlib.Core.List.{List, [], _∷_}
 use native.Mathlib.Omega.{arith}
 use lib.Dec.{eqb}
-use lib.IntN.{ℤ, pos, negsuc, negℤ, _-ℤ_, +ℤ-idl}
+use lib.IntN.{ℤ, pos, negℤ, _-ℤ_, +ℤ-idl}
 use lib.ListN.{length, getD, take, drop, length-drop}
 use lib.Seq.{take-all}
 use mir.Syntax.{w32}
@@ -137,7 +137,7 @@ sum-fits s t r q h d p f m e = record { fits = omega (arith, number-most _ _ _ (
 pub up-is : (n : ℕ) → n < 2 ^ 31 → Cents (priced (toZ w32 n)) ≡ upward n
 up-is n h = ap (λ (z : ℤ). Cents (priced z)) (toZ-pos w32 h)
 
-minus : (n : ℕ) → n < 2 ^ 31 → pos 0 -ℤ toZ w32 n ≡ negℤ (pos n)
+pub minus : (n : ℕ) → n < 2 ^ 31 → pos 0 -ℤ toZ w32 n ≡ negℤ (pos n)
 minus n h = ap (λ (z : ℤ). pos 0 -ℤ z) (toZ-pos w32 h) ∙ zero-less n
   where
     zero-less : (n : ℕ) → pos 0 -ℤ pos n ≡ negℤ (pos n)

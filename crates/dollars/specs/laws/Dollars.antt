@@ -1,6 +1,6 @@
 -- A price written is read again, and a price read is what would be written, below 10,000,000 dollars either way. Assumes nothing.
-use Prim.Native.Nat.{ℕ, zero, suc, _+_, _-_, _*_, _/_, _%_, _^_, _≤_, _<_}
-use mathlib.Core.Bool.{Bool, true, false, not, cond}
+use Prim.Native.Nat.{ℕ, zero, suc, _+_, _-_, _*_, _/_, _%_, _≤_, _<_}
+use mathlib.Core.Bool.{Bool, true, false}
 use mathlib.Core.Path.{_≡_, refl, sym, ap, _∙_}
 use mathlib.Core.List.{List, [], _∷_, _++_}
 use native.Mathlib.Nat.{div-add-mod', mod-lt, div-div-eq-div-mul, mul-add-div-right, mul-add-mod-self-right, mod-eq-of-lt, div-eq-of-lt, div-lt-iff-lt-mul}
@@ -9,18 +9,16 @@ use lib.Dec.{eqb, eqb·suc-zero}
 use lib.IntN.{ℤ, pos, negsuc, negℤ, natAbs}
 use lib.ListN.{length, getD, take, drop, length-append, take-append-drop}
 use lib.Seq.{take-append-seam, drop-append-seam}
-use borrow.Author.Tests.{eq-eqb, ne-eqb, eqb-true, eqb-false}
+use borrow.Author.Tests.{ne-eqb, eqb-true}
 use Rattle.text.specs.Decimal.{digit, decimal}
-use Rattle.numerals.specs.declared.Number.{Number}
 use Rattle.numerals.specs.declared.Number.the-variants as N
 use Rattle.numerals.specs.Numerals.{isDigit, number, given}
 use Rattle.numerals.specs.laws.Lacks.{lacks, lacks-join}
 use Rattle.numerals.specs.laws.Numerals.{clash, Digit, digit-is, writes-read, reads-written, number-first, number-lacks}
 use Rattle.field.specs.declared.Price.{Price}
-use Rattle.dollars.specs.declared.Money.{Money}
 use Rattle.dollars.specs.declared.Money.the-variants.{Cents, Malformed}
 use Rattle.dollars.specs.Dollars.{pointed, cents, priced, upward, downward, price, amount, signOf, priceText}
-use Rattle.dollars.specs.laws.Cases.{need-true, given-is, pointed-is, amount-is, small-point}
+use Rattle.dollars.specs.laws.Cases.{given-is, pointed-is, amount-is}
 
 -- ---- three digits off a number
 
@@ -44,6 +42,9 @@ parts n d x y h g e =
       tens = ap (λ (v : ℕ). v % 10) t ∙ last d x h;
       units = ap (λ (v : ℕ). v % 10) f ∙ last (d * 10 + x) y g;
     }
+
+pub amount-of : (d x y : ℕ) → x < 10 → y < 10 → decimal d ++ 46 ∷ digit x ∷ digit y ∷ [] ≡ amount (d * 100 + (x * 10 + y))
+amount-of d x y h g = let k = parts (d * 100 + (x * 10 + y)) d x y h g refl in sym (simp (k .whole, k .tens, k .units))
 
 back : (n : ℕ) → n / 100 * 100 + (n / 10 % 10 * 10 + n % 10) ≡ n
 back n = omega (arith, div-add-mod' n 10, div-add-mod' (n / 10) 10, div-div-eq-div-mul n 10 10)
@@ -98,6 +99,15 @@ cents-read s n e h =
     ap (λ (v : List ℕ). v ++ 46 ∷ digit (n / 10 % 10) ∷ digit (n % 10) ∷ []) (ap decimal (k .0) ∙ w) ∙ ap (λ (v : List ℕ). take (length s - 3) s ++ v) (k .1) ∙ take-append-drop (length s - 3) s
 
 -- ---- a price
+
+pub price-plain : (n : ℕ) → amount n ≡ priceText (pos n)
+unfolding signOf
+price-plain n = refl
+
+pub price-minus : (n : ℕ) → 1 ≤ n → 45 ∷ amount n ≡ priceText (negℤ (pos n))
+unfolding signOf
+price-minus zero h = absurd (omega arith)
+price-minus (suc n) h = refl
 
 lead : (p q : List ℕ) → Digit (getD p 0 0) → Digit (getD (p ++ q) 0 0)
 lead [] q d = absurd (omega (arith, d .low))

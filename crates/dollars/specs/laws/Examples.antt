@@ -4,7 +4,7 @@ use lib.IntN.{pos, negsuc}
 use Rattle.text.specs.Ascii.{ascii}
 use Rattle.numerals.specs.Numerals.{isDigit, risen, numberFrom, opens, number}
 use Rattle.dollars.specs.declared.Money.the-variants.{Cents, Malformed}
-use Rattle.dollars.specs.Dollars.{pointed, cents, priced, downward, price, signOf, priceText}
+use Rattle.dollars.specs.Dollars.{pointed, cents, priced, downward, price}
 
 good : (price (ascii "9202.25") ≡ Cents (priced (pos 920225))) × (price (ascii "0.50") ≡ Cents (priced (pos 50))) × (price (ascii "-0.50") ≡ Cents (priced (negsuc 49))) × (price (ascii "0.00") ≡ Cents (priced (pos 0)))
 unfolding isDigit risen numberFrom opens number pointed cents downward price

@@ -1,8 +1,8 @@
 -- The places of the code that reads a line. Assumes nothing.
-use Prim.Native.Nat.{ℕ, zero, suc, _+_, _-_, _*_, _≤_, _<_}
+use Prim.Native.Nat.{ℕ, _+_, _-_, _*_, _≤_, _<_}
 use mathlib.Core.Bool.{Bool, true, false, cond}
 use mathlib.Core.Path.{_≡_, refl, sym, ap, _∙_}
-use mathlib.Core.List.{List, [], _∷_}
+use mathlib.Core.List.{List}
 use native.Mathlib.Omega.{arith}
 use lib.IntN.{pos}
 use lib.ListN.{length, take, drop}
@@ -11,7 +11,7 @@ use mir.Val.{Fits}
 use Rattle.text.specs.Ascii.{ascii}
 use Rattle.numerals.specs.declared.Number.{Number}
 use Rattle.numerals.specs.declared.Number.the-variants as N
-use Rattle.numerals.specs.Numerals.{number, given}
+use Rattle.numerals.specs.Numerals.{number}
 use Rattle.numerals.specs.laws.Numerals.{clash, number-most}
 use Rattle.field.specs.declared.Price.{Price}
 use Rattle.field.specs.declared.Field.the-variants as F
@@ -20,13 +20,13 @@ use Rattle.dollars.specs.declared.Money.the-variants as M
 use Rattle.dollars.specs.Dollars.{priced, price}
 use Rattle.names.specs.Names.{same, metalIn, instrumentIn}
 use Rattle.names.specs.laws.Finding.{instrument-found, metal-found}
-use Rattle.items.specs.Items.{items, endOf}
+use Rattle.items.specs.Items.{endOf}
 use Rattle.items.specs.laws.Items.{last-item, next-item}
 use Rattle.line_reader.specs.declared.Side.{Side}
 use Rattle.line_reader.specs.declared.Side.the-variants as S
 use Rattle.line_reader.specs.declared.Line.{Line}
 use Rattle.line_reader.specs.declared.Line.the-variants.{Field as Says, Malformed}
-use Rattle.line_reader.specs.Lines.{paid, sided, sideIn, tradeIn, quoteIn, headerIn, previousIn, three, five, fieldOfItems, fieldIn}
+use Rattle.line_reader.specs.Lines.{paid, sideIn, tradeIn, quoteIn, headerIn, previousIn, three, five, fieldOfItems, fieldIn}
 
 -- ---- a side
 

@@ -1,30 +1,30 @@
 -- Both round trips of a line. A field whose values earn no number is what its line says, and a line that says such a field is that field's line.
---     line-read    fieldIn (lineOf f) is f
---     read-line    lineOf f is the line
+--     legible-read   fieldIn (lineOf f) is f, whatever its values that a line can say
+--     line-read      so of one whose values earn no number
+--     read-line      lineOf f is the line
 -- Assumes nothing.
-use Prim.Native.Nat.{ℕ, zero, suc, _+_, _-_, _*_, _/_, _%_, _^_, _≤_, _<_}
+use Prim.Native.Nat.{ℕ, zero, suc, _+_, _-_, _*_, _^_, _≤_, _<_}
 use mathlib.Core.Bool.{Bool, true, false, cond}
 use mathlib.Core.Path.{_≡_, refl, sym, ap, _∙_}
 use mathlib.Core.List.{List, [], _∷_}
 use native.Mathlib.Omega.{arith}
-use lib.Dec.{eqb, leb}
+use lib.Dec.{leb}
 use lib.IntN.{ℤ, pos, negsuc, natAbs}
 use lib.Signed.{leZ}
 use mathlib.Core.Logic.{_⊎_, inl, inr, ⊎-elim}
 use borrow.Author.Tests.{leb-true}
 use Rattle.text.specs.Ascii.{ascii}
 use Rattle.text.specs.Decimal.{decimal}
-use Rattle.numerals.specs.declared.Number.{Number}
 use Rattle.numerals.specs.declared.Number.the-variants as N
-use Rattle.numerals.specs.Numerals.{isDigit, number, given}
+use Rattle.numerals.specs.Numerals.{isDigit, number}
 use Rattle.numerals.specs.laws.Lacks.{lacks}
 use Rattle.numerals.specs.laws.Numerals.{clash, writes-read, reads-written, number-lacks}
 use Rattle.field.specs.declared.Price.{Price}
 use Rattle.field.specs.declared.Field.{Field}
 use Rattle.field.specs.declared.Field.the-variants as F
-use Rattle.field.specs.Judging.{fine, both, pick, centsWithin, ifAbsent, ifPresent, priceRight, hasBid, hasOffer, judge}
+use Rattle.field.specs.Judging.{fine, pick, centsWithin, ifAbsent, hasBid, hasOffer, judge}
 use Rattle.field.specs.laws.Field.{both-true, within-true}
-use Rattle.field.specs.laws.Sound.{Sound, SoundQuote, sound, price-size, sides-size}
+use Rattle.field.specs.laws.Sound.{Sound, sound, price-size, sides-size}
 use Rattle.dollars.specs.declared.Money.{Money}
 use Rattle.dollars.specs.declared.Money.the-variants as M
 use Rattle.dollars.specs.Dollars.{pointed, cents, priced, price, priceText}
@@ -41,7 +41,7 @@ use Rattle.line_reader.specs.declared.Line.the-variants.{Field as Says, 
 use Rattle.line_reader.specs.Lines.{paid, sided, sideIn, tradeIn, quoteIn, headerIn, previousIn, three, five, fieldOfItems, fieldIn, sideText, itemsOf, lineOf}
 use Rattle.line_reader.specs.laws.Cases.{trade-all, quote-all, metal-all, previous-all, side-bit}
 
--- ---- numbers and sides written
+-- ---- numbers written, and the bits of sides
 
 told : (most n : ℕ) → n ≤ most → n < 10 ^ 19 → number most (decimal n) ≡ N.Value n
 told most n l h = reads-written most n (omega arith) l
@@ -71,11 +71,6 @@ zero-cents p e = at (p .cents) (both-true (leZ (pos 0) (p .cents)) (leZ (p .cent
     at (pos n) h = ap (λ (v : ℕ). priced (pos v)) (omega (arith, leb-true n 0 (h .1)))
     at (negsuc n) h = clash (cc (h .0))
 
-side-written : (present : Bool) (p : Price) → natAbs (p .cents) ≤ 99999999 → ifAbsent present (centsWithin (pos 0) (pos 0) p) ≡ true → sideIn (sideText present p) ≡ S.Is (bitOf present) p
-unfolding sideIn sideText bitOf pick same
-side-written true p h e = simp (no-dash (p .cents) (omega arith), price-written (p .cents) (omega arith))
-side-written false p h e = ap (λ (v : Price). S.Is 0 v) (zero-cents p e)
-
 sides-back : (sides : ℕ) → sides ≤ 3 → bitOf (hasBid sides) + 2 * bitOf (hasOffer sides) ≡ sides
 unfolding bitOf
 sides-back zero h = refl
@@ -94,6 +89,34 @@ Lined (F.Trade time instrument p lots) = Unit {0}
 Lined (F.Quote time instrument sides bid offer) = Unit {0}
 Lined (F.End count) = ⊥
 
+-- the values that a line can say: names that there are, numbers that their widths hold, and below ten million dollars; an absent side holds zero
+abbrev pub Shown : Bool → Price → Type 0
+Shown present p = (natAbs (p .cents) < 1000000000) × (ifAbsent present (centsWithin (pos 0) (pos 0) p) ≡ true)
+
+abbrev pub Legible : Field → Type 0
+Legible (F.Header metal marks) = (1 ≤ metal) × (metal ≤ 5) × (marks ≤ 65535)
+Legible (F.PreviousClose instrument p) = (instrument ≤ 11) × (natAbs (p .cents) < 1000000000)
+Legible (F.Trade time instrument p lots) = (time ≤ 4294967295) × (instrument ≤ 11) × (natAbs (p .cents) < 1000000000) × (lots ≤ 65535)
+Legible (F.Quote time instrument sides bid offer) = (time ≤ 4294967295) × (instrument ≤ 11) × (sides ≤ 3) × Shown (hasBid sides) bid × Shown (hasOffer sides) offer
+Legible (F.End count) = Unit {0}
+
+-- those of a field that earns no number
+legible : (least : ℕ) (f : Field) → Sound least f → Legible f
+legible least (F.Header metal marks) h =
+    let u = both-true _ (leb marks 2047) h in
+    let m = within-true 1 5 metal (u .0) in
+    let k = leb-true marks 2047 (u .1) in
+    (m .0, m .1, omega arith)
+legible least (F.PreviousClose instrument p) h = (h .0, omega (arith, price-size instrument p (h .1)))
+legible least (F.Trade time instrument p lots) h =
+    (omega (arith, h .stamp .in-day), h .stamp .instrument-in, omega (arith, price-size instrument p (h .price-in)), omega (arith, h .most))
+legible least (F.Quote time instrument sides bid offer) h =
+    let z = sides-size least time instrument sides bid offer h in
+    let s = both-true (leb sides 3) _ (h .sides-in) in
+    let a = both-true _ _ (s .1) in
+    (omega (arith, h .stamp .in-day), h .stamp .instrument-in, leb-true sides 3 (s .0), (omega (arith, z .0), a .0), (omega (arith, z .1), a .1))
+legible least (F.End count) h = tt
+
 -- a byte that stands in no item: a comma, a line feed
 pub record Free (c : ℕ) : Type 0 where
   pub odd : Odd c
@@ -110,66 +133,51 @@ unfolding isDigit
 free-10 = record { odd = record { digits = refl; point = refl; minus = refl }; words = (refl, refl, refl, refl, refl); instruments = λ i h. instrument-known i h .one-line; metals = λ m l h. metal-known m l h .one-line }
 
 module _ (c : ℕ) (w : Free c) where
-  free-side : (present : Bool) (p : Price) → natAbs (p .cents) ≤ 99999999 → lacks c (sideText present p) ≡ true
+  free-side : (present : Bool) (p : Price) → natAbs (p .cents) < 1000000000 → lacks c (sideText present p) ≡ true
   unfolding sideText
-  free-side true p h = price-lacks c (p .cents) (w .odd) (omega arith)
+  free-side true p h = price-lacks c (p .cents) (w .odd) h
   free-side false p h = w .words .4
 
-  free-items : (least : ℕ) (f : Field) → Sound least f → Plain c (itemsOf f)
+  free-items : (f : Field) → Legible f → Plain c (itemsOf f)
   unfolding itemsOf
-  free-items least (F.Header metal marks) h =
-      let u = both-true _ (leb marks 2047) h in
-      let m = within-true 1 5 metal (u .0) in
-      let k = leb-true marks 2047 (u .1) in
-      (w .words .0, (w .metals metal (m .0) (m .1), (plain c marks (w .odd .digits) (omega arith), tt)))
-  free-items least (F.PreviousClose instrument p) h =
-      (w .words .1, (w .instruments instrument (h .0), (price-lacks c (p .cents) (w .odd) (omega (arith, price-size instrument p (h .1))), tt)))
-  free-items least (F.Trade time instrument p lots) h =
-      let t = h .stamp .in-day in
-      let m = h .most in
-      (plain c time (w .odd .digits) (omega arith), (w .instruments instrument (h .stamp .instrument-in), (w .words .2, (price-lacks c (p .cents) (w .odd) (omega (arith, price-size instrument p (h .price-in))), (plain c lots (w .odd .digits) (omega arith), tt)))))
-  free-items least (F.Quote time instrument sides bid offer) h =
-      let t = h .stamp .in-day in
-      let z = sides-size least time instrument sides bid offer h in
-      (plain c time (w .odd .digits) (omega arith), (w .instruments instrument (h .stamp .instrument-in), (w .words .3, (free-side (hasBid sides) bid (z .0), (free-side (hasOffer sides) offer (z .1), tt)))))
-  free-items least (F.End count) h = tt
+  free-items (F.Header metal marks) h = (w .words .0, (w .metals metal (h .0) (h .1), (plain c marks (w .odd .digits) (omega (arith, h .2)), tt)))
+  free-items (F.PreviousClose instrument p) h = (w .words .1, (w .instruments instrument (h .0), (price-lacks c (p .cents) (w .odd) (h .1), tt)))
+  free-items (F.Trade time instrument p lots) h =
+      (plain c time (w .odd .digits) (omega (arith, h .0)), (w .instruments instrument (h .1), (w .words .2, (price-lacks c (p .cents) (w .odd) (h .2), (plain c lots (w .odd .digits) (omega (arith, h .3)), tt)))))
+  free-items (F.Quote time instrument sides bid offer) h =
+      (plain c time (w .odd .digits) (omega (arith, h .0)), (w .instruments instrument (h .1), (w .words .3, (free-side (hasBid sides) bid (h .3 .0), (free-side (hasOffer sides) offer (h .4 .0), tt)))))
+  free-items (F.End count) h = tt
 
 -- no line holds a line feed
-pub line-lacks : (least : ℕ) (f : Field) → judge least f ≡ fine → lacks 10 (lineOf f) ≡ true
+pub legible-lacks : (f : Field) → Legible f → lacks 10 (lineOf f) ≡ true
 unfolding lineOf
-line-lacks least f e = joined-lacks 44 10 (itemsOf f) refl (free-items 10 free-10 least f (sound least f e))
+legible-lacks f h = joined-lacks 44 10 (itemsOf f) refl (free-items 10 free-10 f h)
 
-written : (least : ℕ) (f : Field) → Sound least f → Lined f → fieldOfItems (itemsOf f) ≡ Says f
+pub line-lacks : (least : ℕ) (f : Field) → judge least f ≡ fine → lacks 10 (lineOf f) ≡ true
+line-lacks least f e = legible-lacks f (legible least f (sound least f e))
+
+side-written : (present : Bool) (p : Price) → Shown present p → sideIn (sideText present p) ≡ S.Is (bitOf present) p
+unfolding sideIn sideText bitOf pick same
+side-written true p h = simp (no-dash (p .cents) (h .0), price-written (p .cents) (h .0))
+side-written false p h = ap (λ (v : Price). S.Is 0 v) (zero-cents p (h .1))
+
+written : (f : Field) → Legible f → Lined f → fieldOfItems (itemsOf f) ≡ Says f
 unfolding itemsOf fieldOfItems three five same
-written least (F.Header metal marks) h l =
-    let u = both-true _ (leb marks 2047) h in
-    let m = within-true 1 5 metal (u .0) in
-    let k = leb-true marks 2047 (u .1) in
-    let w = metal-known metal (m .0) (m .1) in
-    sym (metal-all (metalName metal) (decimal marks) _ metal refl (w .found) _ marks refl (told 65535 marks (omega arith) (omega arith)))
-written least (F.PreviousClose instrument p) h l =
-    let w = instrument-known instrument (h .0) in
-    let z : natAbs (p .cents) < 1000000000 = omega (arith, price-size instrument p (h .1)) in
-    sym (previous-all (instrumentName instrument) (priceText (p .cents)) _ instrument refl (w .found) _ p refl (price-written (p .cents) z))
-written least (F.Trade time instrument p lots) h l =
-    let w = instrument-known instrument (h .stamp .instrument-in) in
-    let z : natAbs (p .cents) < 1000000000 = omega (arith, price-size instrument p (h .price-in)) in
-    let t = h .stamp .in-day in
-    let m = h .most in
+written (F.Header metal marks) h l =
+    sym (metal-all (metalName metal) (decimal marks) _ metal refl (metal-known metal (h .0) (h .1) .found) _ marks refl (told 65535 marks (h .2) (omega (arith, h .2))))
+written (F.PreviousClose instrument p) h l =
+    sym (previous-all (instrumentName instrument) (priceText (p .cents)) _ instrument refl (instrument-known instrument (h .0) .found) _ p refl (price-written (p .cents) (h .1)))
+written (F.Trade time instrument p lots) h l =
     sym (trade-all (decimal time) (instrumentName instrument) (priceText (p .cents)) (decimal lots)
-    _ time refl (told 4294967295 time (omega arith) (omega arith)) _ instrument refl (w .found) _ p refl (price-written (p .cents) z) _ lots refl (told 65535 lots (omega arith) (omega arith)))
-written least (F.Quote time instrument sides bid offer) h l =
-    let w = instrument-known instrument (h .stamp .instrument-in) in
-    let t = h .stamp .in-day in
-    let z = sides-size least time instrument sides bid offer h in
-    let s = both-true (leb sides 3) _ (h .sides-in) in
-    let a = both-true _ _ (s .1) in
+    _ time refl (told 4294967295 time (h .0) (omega (arith, h .0))) _ instrument refl (instrument-known instrument (h .1) .found)
+    _ p refl (price-written (p .cents) (h .2)) _ lots refl (told 65535 lots (h .3) (omega (arith, h .3))))
+written (F.Quote time instrument sides bid offer) h l =
     sym (quote-all (decimal time) (instrumentName instrument) (sideText (hasBid sides) bid) (sideText (hasOffer sides) offer)
-    _ time refl (told 4294967295 time (omega arith) (omega arith)) _ instrument refl (w .found)
-    _ (bitOf (hasBid sides)) bid refl (side-written (hasBid sides) bid (z .0) (a .0))
-    _ (bitOf (hasOffer sides)) offer refl (side-written (hasOffer sides) offer (z .1) (a .1)))
-    ∙ ap (λ (v : ℕ). Says (F.Quote time instrument v bid offer)) (sides-back sides (leb-true sides 3 (s .0)))
-written least (F.End count) h l = absurd l
+    _ time refl (told 4294967295 time (h .0) (omega (arith, h .0))) _ instrument refl (instrument-known instrument (h .1) .found)
+    _ (bitOf (hasBid sides)) bid refl (side-written (hasBid sides) bid (h .3))
+    _ (bitOf (hasOffer sides)) offer refl (side-written (hasOffer sides) offer (h .4)))
+    ∙ ap (λ (v : ℕ). Says (F.Quote time instrument v bid offer)) (sides-back sides (h .2))
+written (F.End count) h l = absurd l
 
 again : (f : Field) → Plain 44 (itemsOf f) → Lined f → items (joined 44 (itemsOf f)) ≡ itemsOf f
 unfolding itemsOf
@@ -179,11 +187,12 @@ again (F.Trade time instrument q lots) p l = items-join 44 _ _ p
 again (F.Quote time instrument sides bid offer) p l = items-join 44 _ _ p
 again (F.End count) p l = absurd l
 
-pub line-read : (least : ℕ) (f : Field) → judge least f ≡ fine → Lined f → fieldIn (lineOf f) ≡ Says f
+pub legible-read : (f : Field) → Legible f → Lined f → fieldIn (lineOf f) ≡ Says f
 unfolding fieldIn lineOf
-line-read least f e l =
-    let h = sound least f e in
-    ap fieldOfItems (again f (free-items 44 free-44 least f h) l) ∙ written least f h l
+legible-read f h l = ap fieldOfItems (again f (free-items 44 free-44 f h) l) ∙ written f h l
+
+pub line-read : (least : ℕ) (f : Field) → judge least f ≡ fine → Lined f → fieldIn (lineOf f) ≡ Says f
+line-read least f e l = legible-read f (legible least f (sound least f e)) l
 
 -- ---- what the items were
 

@@ -1,16 +1,15 @@
 -- `line_writer::put_header` meets its contract. Assumes nothing.
-use mathlib.Core.Path.{_≡_, refl, sym, ap, _∙_}
-use native.Mathlib.Omega.{arith}
-use denote.Ref.{now}
 use borrow.Author.Needs.{needs}
 use Rattle.text.specs.laws.Putting.{then, same-bytes}
-use Rattle.line_writer.specs.laws.Pieces.{header-pieces}
+use Rattle.line_reader.specs.laws.Pieces.{header-line}
+use Rattle.tape.specs.Tape.{lineText}
 use Rattle.line_writer.proofs.put_header.Statement.{statement}
 use Rattle.line_writer.proofs.put_header.Tie as tie
 
 returns : tie.Need-returns
+unfolding lineText
 returns c =
-    let a = c .before .before .before .before .before .before .before .before .before .before .before .before .before .before .before .before .before .before .before .before .before .before .before .before .args in same-bytes (header-pieces (a .metal) (a .marks)) (then (c .before .before .before .before .before .before .before .before .before .before .before .before .before .before .before .before .before .before .before .before .put .ensures) (then (c .before .before .before .before .before .before .before .before .before .before .before .before .before .before .before .before .put-metal .ensures) (then (c .before .before .before .before .before .before .before .before .before .before .before .put2 .ensures) (then (c .before .before .before .before .before .before .before .put-number .ensures) (c .before .before .put3 .ensures)))))
+    let a = c .before .before .before .before .before .before .before .before .before .before .before .before .before .before .before .before .before .before .before .before .before .before .before .before .args in same-bytes (header-line (a .metal) (a .marks)) (then (c .before .before .before .before .before .before .before .before .before .before .before .before .before .before .before .before .before .before .before .before .put .ensures) (then (c .before .before .before .before .before .before .before .before .before .before .before .before .before .before .before .before .put-metal .ensures) (then (c .before .before .before .before .before .before .before .before .before .before .before .put2 .ensures) (then (c .before .before .before .before .before .before .before .put-number .ensures) (c .before .before .put3 .ensures)))))
 
 pub put-header-spec : {M : Type 1} → statement M
 put-header-spec =

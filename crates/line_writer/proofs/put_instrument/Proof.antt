@@ -1,7 +1,5 @@
 -- `line_writer::put_instrument` meets its contract. Assumes nothing.
-use mathlib.Core.Path.{_≡_, refl, sym, ap, _∙_}
 use native.Mathlib.Omega.{arith}
-use denote.Ref.{now}
 use Rattle.names.specs.Names.{instrumentName}
 use Rattle.names.specs.laws.Names.{instrument-length, name-short, name-bytes}
 use borrow.Author.Needs.{needs}

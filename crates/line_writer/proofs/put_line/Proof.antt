@@ -1,7 +1,4 @@
 -- `line_writer::put_line` meets its contract. Assumes nothing.
-use mathlib.Core.Path.{_≡_, refl, sym, ap, _∙_}
-use native.Mathlib.Omega.{arith}
-use denote.Ref.{now}
 use borrow.Author.Needs.{needs}
 use Rattle.line_writer.specs.laws.Pieces.{line-put, line-none}
 use Rattle.line_writer.proofs.put_line.Statement.{statement}

@@ -1,11 +1,9 @@
 -- `line_writer::put_name` meets its contract. Assumes nothing.
-use mathlib.Core.Path.{_≡_, refl, sym, ap, _∙_}
+use mathlib.Core.Path.{_≡_, sym}
 use native.Mathlib.Omega.{arith}
-use denote.Ref.{now}
 use lib.ListN.{length}
 use lib.Seq.{length-take-le}
 use borrow.Author.Needs.{needs}
-use Rattle.text.specs.laws.Putting.{same-bytes}
 use Rattle.line_writer.proofs.put_name.Statement.{statement}
 use Rattle.line_writer.proofs.put_name.Tie as tie
 

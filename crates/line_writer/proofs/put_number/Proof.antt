@@ -1,7 +1,5 @@
 -- `line_writer::put_number` meets its contract. Assumes nothing.
-use mathlib.Core.Path.{_≡_, refl, sym, ap, _∙_}
 use native.Mathlib.Omega.{arith}
-use denote.Ref.{now}
 use Rattle.text.specs.laws.Decimal.{spelled}
 use borrow.Author.Needs.{needs}
 use Rattle.text.specs.laws.Putting.{same-bytes}

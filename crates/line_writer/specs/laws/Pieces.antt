@@ -2,24 +2,21 @@
 use Prim.Native.Nat.{ℕ, suc, _+_, _-_, _≤_, _<_}
 use mathlib.Core.Bool.{Bool, true, false}
 use mathlib.Core.Path.{_≡_, sym, ap, subst}
-use mathlib.Core.List.{List, [], _∷_, _++_, append-assoc}
+use mathlib.Core.List.{List, _∷_, _++_}
 use native.Mathlib.Omega.{arith}
 use lib.IntN.{ℤ, pos, negsuc}
 use lib.ListN.{length}
 use mir.Syntax.{w32}
 use mir.Val.{SFits}
 use Rattle.text.specs.Ascii.{ascii}
-use Rattle.text.specs.Decimal.{decimal}
 use Rattle.text.specs.Over.{over}
 use Rattle.text.specs.laws.Putting.{Puts, put-none}
 use Rattle.wire.specs.Big.{bits}
 use Rattle.field.specs.declared.Price.{Price}
 use Rattle.field.specs.declared.Field.{Field}
 use Rattle.field.specs.declared.Field.the-variants as F
-use Rattle.field.specs.Judging.{hasBid, hasOffer}
 use Rattle.dollars.specs.Dollars.{amount, signOf, priceText}
-use Rattle.names.specs.Names.{metalName, instrumentName}
-use Rattle.line_reader.specs.Lines.{sideText, itemsOf, lineOf}
+use Rattle.line_reader.specs.Lines.{sideText}
 use Rattle.tape.specs.Tape.{lineText}
 
 -- ---- a price by its bits
@@ -33,24 +30,6 @@ pub written-down : (z : ℤ) (b : ℕ) → SFits w32 z → b ≡ bits z → 2147
 unfolding signOf
 written-down (pos n) b f e h = absurd (omega (arith, f .sfits))
 written-down (negsuc n) b f e h = let z : 4294967295 - b + 1 ≡ suc n = omega (arith, f .sfits) in ap (λ (v : ℕ). 45 ∷ amount v) z
-
--- ---- the pieces of each line
-
-pub header-pieces : (metal marks : ℕ) → ascii "METAL," ++ (metalName metal ++ (ascii "," ++ (decimal marks ++ ascii "\n"))) ≡ lineText (F.Header metal marks)
-unfolding lineText lineOf itemsOf
-header-pieces metal marks = simp append-assoc
-
-pub previous-pieces : (instrument : ℕ) (p : Price) → ascii "PREV," ++ (instrumentName instrument ++ (ascii "," ++ (priceText (p .cents) ++ ascii "\n"))) ≡ lineText (F.PreviousClose instrument p)
-unfolding lineText lineOf itemsOf
-previous-pieces instrument p = simp append-assoc
-
-pub trade-pieces : (time instrument : ℕ) (p : Price) (lots : ℕ) → (decimal time ++ 44 ∷ instrumentName instrument) ++ (ascii ",TRADE," ++ (priceText (p .cents) ++ (ascii "," ++ (decimal lots ++ ascii "\n")))) ≡ lineText (F.Trade time instrument p lots)
-unfolding lineText lineOf itemsOf
-trade-pieces time instrument p lots = simp append-assoc
-
-pub quote-pieces : (time instrument sides : ℕ) (bid offer : Price) → (decimal time ++ 44 ∷ instrumentName instrument) ++ (ascii ",QUOTE," ++ (sideText (hasBid sides) bid ++ (ascii "," ++ (sideText (hasOffer sides) offer ++ ascii "\n")))) ≡ lineText (F.Quote time instrument sides bid offer)
-unfolding lineText lineOf itemsOf
-quote-pieces time instrument sides bid offer = simp append-assoc
 
 -- ---- a side, and a line, as the code takes them apart
 

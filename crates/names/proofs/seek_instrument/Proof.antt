@@ -1,8 +1,7 @@
 -- `names::seek_instrument` meets its contract: name after name. Assumes nothing.
 use Prim.Native.Nat.{_-_}
 use denote.Ref.{now}
-use mathlib.Core.Path.{_≡_, refl, sym, ap, _∙_}
-use mathlib.Core.Bool.{Bool, true, false}
+use mathlib.Core.Path.{_∙_}
 use native.Mathlib.Omega.{arith}
 use borrow.Author.Needs.{needs}
 use Rattle.names.specs.Names.{instrumentNames, instrumentName, instrumentIn}

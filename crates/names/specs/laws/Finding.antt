@@ -16,7 +16,7 @@ use Rattle.numerals.specs.laws.Numerals.{clash}
 use Rattle.market.specs.laws.Table.{both, both-left, both-right, below, from-one}
 use Rattle.names.specs.declared.Name.{Name}
 use Rattle.names.specs.Names.{metalNames, metalName, instrumentNames, instrumentName, same, numberOf, metalIn, instrumentIn, inName}
-use Rattle.names.specs.laws.Names.{name-bytes}
+use Rattle.names.specs.laws.Names.{name-bytes, name-short, instrument-length}
 
 -- ---- the same bytes
 
@@ -177,6 +177,9 @@ pub metal-known : (m : ℕ) → 1 ≤ m → m ≤ 5 → Known (metalIn (metalNam
 unfolding metalIn metalName same
 metal-known m l h = known (metalIn (metalName m)) (metalName m) m (from-one (λ m. knows (metalIn (metalName m)) (metalName m) m) 5 m tt l h)
 
--- so the bytes of a known name have its number
-pub instrument-is : (i : ℕ) (s : List ℕ) → i ≤ 11 → same (instrumentName i) s ≡ true → Value i ≡ instrumentIn s
-instrument-is i s h e = sym (instrument-known i h .found) ∙ ap instrumentIn (same-is (instrumentName i) s e)
+-- so the bytes of a known name have its number, as the code compares them with a name by value
+pub instrument-is : (i : ℕ) (s : List ℕ) (held : Name) (r : Bool) → held ≡ inName (instrumentName i) → r ≡ same (take (held .len) (held .bytes)) s → r ≡ true → i ≤ 11 → Value i ≡ instrumentIn s
+instrument-is i s held r h q e l = sym (instrument-known i l .found) ∙ ap instrumentIn (same-is (instrumentName i) s (compared (instrumentName i) _ s held r refl h q ∙ e))
+
+pub instrument-short : (i : ℕ) (held : Name) → held ≡ inName (instrumentName i) → held .len ≤ 9
+instrument-short i held h = name-short (instrumentName i) held h (omega (arith, instrument-length i))

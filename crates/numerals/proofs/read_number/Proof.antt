@@ -2,7 +2,6 @@
 use Prim.Native.Nat.{_-_}
 use lib.ListN.{length}
 use borrow.Author.Needs.{needs}
-use borrow.Author.Tests.{not-true, not-false}
 use Rattle.numerals.specs.laws.Walk.{OnDigits, shut, at-start, at-bad, at-next, at-end}
 use Rattle.numerals.proofs.read_number.Statement.{statement}
 use Rattle.numerals.proofs.read_number.Tie as tie

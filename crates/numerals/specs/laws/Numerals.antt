@@ -3,19 +3,18 @@
 --     writes-read      bytes that say a number below most are that number's decimal
 -- Assumes nothing.
 use Prim.Native.Nat.{ℕ, zero, suc, _+_, _-_, _*_, _/_, _%_, _^_, _≤_, _<_}
-use mathlib.Core.Bool.{Bool, true, false, not, cond}
+use mathlib.Core.Bool.{Bool, true, false}
 use mathlib.Core.Path.{_≡_, refl, sym, ap, _∙_}
 use mathlib.Core.List.{List, [], _∷_, _++_, append-nil, append-assoc}
 use native.Mathlib.Nat.{pow-suc, div-lt-iff-lt-mul, mod-lt, div-add-mod', mul-add-div-right, mul-add-mod-self-right, mod-eq-of-lt, div-eq-of-lt}
 use native.Mathlib.Decide.{decLe, decLt}
 use native.Mathlib.Omega.{arith}
-use lib.Dec.{leb, ltb, eqb}
+use lib.Dec.{ltb, eqb}
 use lib.ListN.{length, getD, length-append, List·getD-append}
 use borrow.Author.Tests.{lt-ltb, le-ltb, le-leb, lt-leb, ne-eqb, eqb-false, not-true, ltb-true}
 use Rattle.text.specs.Decimal.{digit, decimalIn, decimal}
 use Rattle.text.specs.laws.Decimal.{decimal-length}
-use Rattle.numerals.specs.declared.Number.{Number}
-use Rattle.numerals.specs.declared.Number.the-variants.{Value, Malformed}
+use Rattle.numerals.specs.declared.Number.the-variants.{Value}
 use Rattle.numerals.specs.Numerals.{isDigit, risen, numberFrom, opens, number}
 use Rattle.numerals.specs.laws.Lacks.{lacks}
 use Rattle.numerals.specs.laws.Walk.{risen-most}
@@ -97,7 +96,7 @@ rose most n a b s e l = by-test (decLe (a * 10 + (b - 48)) most)
 
 -- ---- the decimal of a number and one digit more
 
-one : (k n : ℕ) → n < 10 → decimalIn (suc k) n ≡ digit n ∷ []
+pub one : (k n : ℕ) → n < 10 → decimalIn (suc k) n ≡ digit n ∷ []
 unfolding decimalIn
 one k n h = simp (lt-ltb n 10 h)
 
@@ -129,7 +128,7 @@ same-in (suc k) n h = by-test (same-in k (n / 10) (tenth (suc k) n h)) (decLt n 
         let g : 10 ≤ n = omega arith in
         split (suc (suc k)) n g ∙ ap (λ (p : List ℕ). p ++ digit (n % 10) ∷ []) e ∙ sym (split (suc k) n g)
 
-longer : (n d : ℕ) → 1 ≤ n → d < 10 → n < 10 ^ 19 → decimal (n * 10 + d) ≡ decimal n ++ digit d ∷ []
+pub longer : (n d : ℕ) → 1 ≤ n → d < 10 → n < 10 ^ 19 → decimal (n * 10 + d) ≡ decimal n ++ digit d ∷ []
 longer n d p h l =
     let q : (n * 10 + d) / 10 ≡ n = mul-add-div-right (omega arith) n d ∙ ap (λ (v : ℕ). n + v) (div-eq-of-lt h) ∙ omega arith in
     let m : (n * 10 + d) % 10 ≡ d = mul-add-mod-self-right n 10 d ∙ mod-eq-of-lt h in

@@ -1,14 +1,13 @@
 -- `tape::judge_tape` meets its contract. Assumes nothing.
-use borrow.Author.Needs.{needs}
 use Prim.Native.Nat.{_-_}
 use lib.ListN.{length}
-use Rattle.items.specs.laws.Items.{end-least}
 use Rattle.tape.specs.laws.Track.{OnTape}
-use Rattle.tape.specs.laws.Track.{t-start, t-last, t-bad, t-stop, t-ends, t-next, t-less}
+use Rattle.tape.specs.laws.Track.{t-start, t-last, t-bad, t-stop, t-ends, t-next, t-less, t-counts}
+use borrow.Author.Needs.{needs}
 use Rattle.tape.proofs.judge_tape.Statement.{statement}
 use Rattle.tape.proofs.judge_tape.Tie as tie
 
-ruleset judging = (t-start, t-last, t-bad, t-stop, t-ends, t-next, t-less, end-least, needs)
+ruleset judging = (t-start, t-last, t-bad, t-stop, t-ends, t-next, t-less, t-counts, needs)
 
 abbrev Inv-loop : tie.InvT-loop
 Inv-loop text at₀ line₀ bytes₀ progress₀ at line bytes progress = OnTape text at line bytes progress
@@ -26,12 +25,9 @@ judge-tape-spec =
     (λ c. search judging)
     (λ c κs. search judging)
     (λ c. search judging)
-    (λ c κs. search judging)
-    (λ c. search judging)
-    (λ c. search judging)
-    (λ c. search judging)
     (λ c. search judging)
     (λ c κs. search judging)
+    (λ c. search judging)
     (λ c. search judging)
     (λ c. search judging)
     (λ c. search judging)
@@ -43,7 +39,6 @@ judge-tape-spec =
     (λ c. search judging)
     (λ c. search judging)
     (λ c κs. search judging)
-    (λ c. search judging)
     (λ c. search judging)
     (λ c. search judging)
     (λ c. search judging))

@@ -1,27 +1,24 @@
 -- Laws of the judge's loop. The premises are the facts as they stand in the code. Assumes nothing.
-use Prim.Native.Nat.{ℕ, zero, suc, _+_, _-_, _≤_, _<_}
-use mathlib.Core.Bool.{Bool, true, false, cond}
+use Prim.Native.Nat.{ℕ, _+_, _-_, _≤_, _<_}
 use mathlib.Core.Path.{_≡_, refl, sym, ap, _∙_}
-use mathlib.Core.List.{List, [], _∷_}
+use mathlib.Core.List.{List}
 use native.Mathlib.Omega.{arith}
-use lib.Dec.{eqb, leb}
-use lib.ListN.{length, take, drop, length-drop}
-use lib.Seq.{length-take-le}
+use lib.ListN.{length, drop}
 use borrow.Author.Tests.{eq-eqb, ne-eqb, le-leb, lt-leb}
 use Rattle.field.specs.declared.Field.{Field}
-use Rattle.field.specs.Layout.{sizeOf, tagOf}
 use Rattle.admit.specs.declared.Progress.{Progress}
 use Rattle.admit.specs.declared.Admitted.{Admitted}
 use Rattle.admit.specs.declared.Admitted.the-variants as A
-use Rattle.admit.specs.Admitting.{start, Step, goes, ends, stops, admit, admitSays}
-use Rattle.items.specs.Items.{first, rest, pieces, endOf}
-use Rattle.items.specs.laws.Items.{last-item, next-item, end-least, end-in}
+use Rattle.admit.specs.Admitting.{start, admit, admitSays}
+use Rattle.items.specs.Items.{first, rest}
 use Rattle.line_reader.specs.declared.Line.{Line}
 use Rattle.line_reader.specs.declared.Line.the-variants as L
-use Rattle.line_reader.specs.Lines.{fieldIn}
+use Rattle.next_line.specs.declared.NextLine.{NextLine}
+use Rattle.next_line.specs.declared.NextLine.the-variants as N
+use Rattle.next_line.specs.laws.Next.{nextLine, Goes, was-last, was-field, was-bad}
 use Rattle.tape.specs.declared.Measured.{Measured}
 use Rattle.tape.specs.declared.Measured.the-variants.{Bytes, Refused}
-use Rattle.tape.specs.Tape.{LinesSay, tells, bad, with, capped, atLast, onward, sayLine, sayLines, textSays}
+use Rattle.tape.specs.Tape.{capped, atLast, onward, sayLine, sayLines, textSays}
 use Rattle.tape.specs.laws.Measuring.{grown, measured, measured-with, measured-none, stop-most}
 
 -- ---- the small functions
@@ -56,52 +53,54 @@ pub record OnTape (s : List ℕ) (at line bytes : ℕ) (p : Progress) : Type 0 w
   pub lines : line ≤ at + 1
   pub small : bytes ≤ 1048577
 
-abbrev sayAll : ℕ → Progress → List (List ℕ) → LinesSay
-sayAll line p [] = bad 17 line
-sayAll line p (l ∷ ls) = sayLines line p l ls
-
 pub t-start : (s : List ℕ) (p : Progress) → p ≡ start → OnTape s 0 1 0 p
 t-start s p e = rw e (record { same = refl; within = omega arith; lines = omega arith; small = omega arith })
 
-module _ (s : List ℕ) (at line bytes : ℕ) (p : Progress) (o : OnTape s at line bytes p) (e : ℕ) (q : e ≡ endOf 10 s at) where
-  pub t-last : length s ≤ e → (r : Measured) → r ≡ measured bytes (atLast line p (length s - at)) → r ≡ measured 0 (textSays s)
+module _ (s : List ℕ) (at line bytes : ℕ) (p : Progress) (o : OnTape s at line bytes p) (r : NextLine) (q : r ≡ nextLine s at) where
+  pub t-last : r ≡ N.Last → (m : Measured) → m ≡ measured bytes (atLast line p (length s - at)) → m ≡ measured 0 (textSays s)
   unfolding sayLines
-  t-last h r w =
-      let i = end-in 10 s at e q (o .within) in
-      let k : length (take (e - at) (drop at s)) ≡ length s - at = length-take-le (e - at) (drop at s) (omega (arith, length-drop at s)) ∙ omega arith in
-      w ∙ ap (λ (v : ℕ). measured bytes (atLast line p v)) (sym k) ∙ sym (ap (λ (ls : List (List ℕ)). measured bytes (sayAll line p ls)) (last-item 10 s at e q h)) ∙ o .same
+  t-last d m w =
+      let e = was-last s at r q d in
+      w ∙ ap (λ (v : ℕ). measured bytes (atLast line p v)) (sym (e .size)) ∙ ap (λ (ls : List (List ℕ)). measured bytes (sayLines line p (first 10 (drop at s)) ls)) (sym (e .none)) ∙ o .same
 
-  module _ (h : e < length s) where
-    here : measured bytes (sayLine line p (fieldIn (take (e - at) (drop at s))) (λ r. sayLines (line + 1) r (first 10 (drop (e + 1) s)) (rest 10 (drop (e + 1) s)))) ≡ measured 0 (textSays s)
-    unfolding sayLines
-    here = sym (ap (λ (ls : List (List ℕ)). measured bytes (sayAll line p ls)) (next-item 10 s at e q h _ refl)) ∙ o .same
+  here : (l : Line) (next : ℕ) → Goes s at l next → measured bytes (sayLine line p l (λ x. sayLines (line + 1) x (first 10 (drop next s)) (rest 10 (drop next s)))) ≡ measured 0 (textSays s)
+  unfolding sayLines
+  here l next g =
+      ap (λ (v : Line). measured bytes (sayLine line p v (λ x. sayLines (line + 1) x (first 10 (drop next s)) (rest 10 (drop next s))))) (sym (g .line))
+      ∙ ap (λ (ls : List (List ℕ)). measured bytes (sayLines line p (first 10 (drop at s)) ls)) (sym (g .later)) ∙ o .same
 
-    module _ (r : Line) (w : r ≡ fieldIn (take (e - at) (drop at s))) where
-      pub t-bad : r ≡ L.Malformed → Refused 17 line ≡ measured 0 (textSays s)
+  pub t-bad : r ≡ N.Malformed → Refused 17 line ≡ measured 0 (textSays s)
+  unfolding sayLine
+  t-bad d = here _ _ (was-bad s at r q d)
+
+  module _ (f : Field) (next : ℕ) (d : r ≡ N.Field f next) where
+    went : Goes s at (L.Field f) next
+    went = was-field s at r q f next d
+
+    pub t-less : length s - next < length s - at
+    t-less = omega (arith, went .ahead, went .within)
+
+    pub t-counts : line + 1 ≤ length s + 1
+    t-counts = omega (arith, o .lines, went .ahead, went .within)
+
+    module _ (c : Progress) (k : c ≡ capped p) (t : Admitted) (a : admitSays t ≡ admit c f) where
+      on : measured bytes (onward line f (admitSays t) (λ x. sayLines (line + 1) x (first 10 (drop next s)) (rest 10 (drop next s)))) ≡ measured 0 (textSays s)
       unfolding sayLine
-      t-bad d = simp (sym w, d) at here
+      on = rw (a, k) (here _ _ went)
 
-      module _ (f : Field) (d : r ≡ L.Field f) (c : Progress) (k : c ≡ capped p) (t : Admitted) (a : admitSays t ≡ admit c f) where
-        on : measured bytes (onward line f (admitSays t) (λ x. sayLines (line + 1) x (first 10 (drop (e + 1) s)) (rest 10 (drop (e + 1) s)))) ≡ measured 0 (textSays s)
-        unfolding sayLine
-        on = rw (a, k) (simp (sym w, d) at here)
+      pub t-stop : (number : ℕ) → t ≡ A.Refused number → Refused number line ≡ measured 0 (textSays s)
+      unfolding onward
+      t-stop number z = simp z at on
 
-        pub t-stop : (number : ℕ) → t ≡ A.Refused number → Refused number line ≡ measured 0 (textSays s)
-        unfolding onward
-        t-stop number z = simp z at on
+      pub t-ends : t ≡ A.Ended → Refused 17 line ≡ measured 0 (textSays s)
+      unfolding onward
+      t-ends z = simp z at on
 
-        pub t-ends : t ≡ A.Ended → Refused 17 line ≡ measured 0 (textSays s)
-        unfolding onward
-        t-ends z = simp z at on
-
-        pub t-next : (x : Progress) (n : ℕ) → t ≡ A.Next x → n ≡ grown bytes f → OnTape s (e + 1) (line + 1) n x
-        unfolding onward
-        t-next x n z g = record {
-          same = rw g (sym (measured-with bytes f (sayLines (line + 1) x (first 10 (drop (e + 1) s)) (rest 10 (drop (e + 1) s)))) ∙ (simp z at on));
-          within = omega arith;
-          lines = omega (arith, o .lines, end-least 10 s at e q);
-          small = rw g (stop-most _);
-        }
-
-  pub t-less : e < length s → length s - (e + 1) < length s - at
-  t-less h = omega (arith, end-least 10 s at e q)
+      pub t-next : (x : Progress) (n : ℕ) → t ≡ A.Next x → n ≡ grown bytes f → OnTape s next (line + 1) n x
+      unfolding onward
+      t-next x n z g = record {
+        same = rw g (sym (measured-with bytes f (sayLines (line + 1) x (first 10 (drop next s)) (rest 10 (drop next s)))) ∙ (simp z at on));
+        within = went .within;
+        lines = omega (arith, o .lines, went .ahead);
+        small = rw g (stop-most _);
+      }

@@ -5,7 +5,7 @@ use Rattle.field.specs.Layout.{tagOf, sizeOf, fieldBytes}
 use mathlib.Core.List.{append-assoc}
 use mathlib.Core.Path.{_≡_, sym, ap, _∙_}
 use native.Mathlib.Omega.{arith}
-use lib.ListN.{length, take, drop, length-take, length-drop}
+use lib.ListN.{take, length-take, length-drop}
 use denote.Ref.{now}
 use borrow.Author.Needs.{needs}
 use Rattle.tape_reader.proofs.put_at.Statement.{statement}

@@ -1,13 +1,12 @@
 -- `tape_reader::put_fields` meets its contract: each need is a law of the loop. Assumes nothing.
 use Prim.Native.Nat.{_-_}
 use lib.ListN.{length}
-use borrow.Author.Needs.{needs}
-use Rattle.items.specs.laws.Items.{end-least}
 use Rattle.tape_reader.specs.laws.Laying.{Laying, lay-start, lay-length, lay-end, lay-bad, lay-room, lay-next, lay-counts, lay-less}
+use borrow.Author.Needs.{needs}
 use Rattle.tape_reader.proofs.put_fields.Statement.{statement}
 use Rattle.tape_reader.proofs.put_fields.Tie as tie
 
-ruleset laying = (lay-start, lay-length, lay-end, lay-bad, lay-room, lay-next, lay-counts, lay-less, end-least, needs)
+ruleset laying = (lay-start, lay-length, lay-end, lay-bad, lay-room, lay-next, lay-counts, lay-less, needs)
 
 abbrev Inv-loop : tie.InvT-loop
 Inv-loop text sheet₀ from₀ at₀ count₀ sheet from at count = Laying text sheet₀ from at count sheet
@@ -28,13 +27,9 @@ put-fields-spec =
     (λ c. search laying)
     (λ c. search laying)
     (λ c. search laying)
-    (λ c κs. search laying)
-    (λ c. search laying)
-    (λ c. search laying)
     (λ c. search laying)
     (λ c. search laying)
     (λ c κs. search laying)
-    (λ c. search laying)
     (λ c. search laying)
     (λ c. search laying)
     (λ c. search laying))

@@ -1,5 +1,4 @@
 -- `tape_reader::tape_to_sheet` meets its contract: a bad line, a sheet too long, no room, or the sheet. Assumes nothing.
-use native.Mathlib.Omega.{arith}
 use denote.Ref.{now}
 use borrow.Author.Needs.{needs}
 use Rattle.tape_reader.specs.laws.Laying.{line-refused, long-refused, room-refused, fitting, whole}

@@ -1,13 +1,11 @@
 -- What holds as the fields of an accepted text are laid into the buffer, and what the answers of `tape_to_sheet` are. Assumes nothing.
-use Prim.Native.Nat.{ℕ, zero, suc, _+_, _-_, _≤_, _<_}
-use mathlib.Core.Bool.{Bool, true, false, cond}
+use Prim.Native.Nat.{ℕ, _+_, _-_, _≤_, _<_}
 use mathlib.Core.Path.{_≡_, refl, sym, ap, _∙_, subst}
 use mathlib.Core.List.{List, [], _∷_, _++_, append-assoc, append-nil}
 use native.Mathlib.Omega.{arith}
-use lib.Dec.{leb}
-use lib.ListN.{length, take, drop, length-append, length-drop}
+use lib.ListN.{length, drop, length-append}
 use borrow.Author.Tests.{le-leb, lt-leb}
-use mir.Syntax.{w32, w64}
+use mir.Syntax.{w32}
 use mir.Val.{Fits}
 use Rattle.text.specs.Over.{over}
 use Rattle.text.specs.laws.Putting.{Wrote, over-length, then}
@@ -18,18 +16,19 @@ use Rattle.field.specs.Layout.{fieldBytes}
 use Rattle.admit.specs.declared.Progress.{Progress}
 use Rattle.admit.specs.Admitting.{start}
 use Rattle.sheet.specs.Fields.{encode}
-use Rattle.items.specs.Items.{first, rest, endOf}
-use Rattle.items.specs.laws.Items.{last-item, next-item, end-least, end-in}
+use Rattle.items.specs.Items.{first, rest}
 use Rattle.line_reader.specs.declared.Line.{Line}
 use Rattle.line_reader.specs.declared.Line.the-variants as L
-use Rattle.line_reader.specs.Lines.{fieldIn}
+use Rattle.next_line.specs.declared.NextLine.{NextLine}
+use Rattle.next_line.specs.declared.NextLine.the-variants as N
+use Rattle.next_line.specs.laws.Next.{nextLine, Goes, was-last, was-field, was-bad}
 use Rattle.tape.specs.declared.Measured.{Measured}
 use Rattle.tape.specs.declared.Measured.the-variants.{Bytes, Refused}
 use Rattle.tape.specs.declared.Filled.{Filled}
 use Rattle.tape.specs.declared.Filled.the-variants as Filled
-use Rattle.tape.specs.Tape.{LinesSay, tells, bad, sayLine, sayLines, textSays, Made, made, refused, sheetOf, sheetMade, inRoom, tapeToSheet, bufferWith, filled}
+use Rattle.tape.specs.Tape.{LinesSay, tells, bad, sayLine, sayLines, textSays, made, refused, sheetOf, sheetMade, inRoom, tapeToSheet}
 use Rattle.tape.specs.laws.Measuring.{measured, measured-low, measured-high, encode-long, encode-join, encode-one, end-long, sheet-long}
-use Rattle.tape.specs.laws.Taken.{Closed, closed, Took, took}
+use Rattle.tape.specs.laws.Taken.{closed, Took, took}
 use Rattle.tape.specs.laws.Filling.{Answers, answers}
 use Rattle.tape_reader.specs.declared.Laid.{Laid}
 
@@ -98,77 +97,79 @@ lay-start x b f = record {
   small = f .small;
 }
 
-abbrev sayAll : ℕ → Progress → List (List ℕ) → LinesSay
-sayAll line p [] = bad 17 line
-sayAll line p (l ∷ ls) = sayLines line p l ls
-
 none-left : (fs gs : List Field) → gs ≡ [] → fs ++ gs ≡ fs
 none-left fs gs e = ap (λ (v : List Field). fs ++ v) e ∙ append-nil fs
 
-module _ (x b₀ : List ℕ) (from at count : ℕ) (b : List ℕ) (o : Laying x b₀ from at count b) (e : ℕ) (q : e ≡ endOf 10 x from) where
-  pub lay-end : length x ≤ e → Laid-out x b₀ (record { at = at; count = count }) b
+module _ (x b₀ : List ℕ) (from at count : ℕ) (b : List ℕ) (o : Laying x b₀ from at count b) (r : NextLine) (q : r ≡ nextLine x from) where
+  pub lay-end : r ≡ N.Last → Laid-out x b₀ (record { at = at; count = count }) b
   unfolding sayLines
-  lay-end h =
-      let c = closed (o .line) (length (take (e - from) (drop from x))) (o .p) (o .later) (ap (sayAll (o .line) (o .p)) (sym (last-item 10 x from e q h)) ∙ o .left) in
+  lay-end d =
+      let e = was-last x from r q d in
+      let c = closed (o .line) (length (first 10 (drop from x))) (o .p) (o .later) (ap (sayLines (o .line) (o .p) (first 10 (drop from x))) (sym (e .none)) ∙ o .left) in
       record { fields = o .done; says = o .says ∙ ap tells (none-left (o .done) (o .later) (c .none)); place = o .place; number = o .number; bytes = o .bytes }
 
-  module _ (h : e < length x) where
-    next-left : sayLine (o .line) (o .p) (fieldIn (take (e - from) (drop from x))) (λ r. sayLines (o .line + 1) r (first 10 (drop (e + 1) x)) (rest 10 (drop (e + 1) x))) ≡ tells (o .later)
-    unfolding sayLines
-    next-left = ap (sayAll (o .line) (o .p)) (sym (next-item 10 x from e q h _ refl)) ∙ o .left
+  took-here : (l : Line) (next : ℕ) → Goes x from l next → Took (o .p) l (λ p. sayLines (o .line + 1) p (first 10 (drop next x)) (rest 10 (drop next x))) (o .later)
+  unfolding sayLines
+  took-here l next g =
+      took (o .line) (o .p) l _ (o .later)
+      (ap (λ (v : Line). sayLine (o .line) (o .p) v (λ p. sayLines (o .line + 1) p (first 10 (drop next x)) (rest 10 (drop next x)))) (sym (g .line))
+      ∙ ap (sayLines (o .line) (o .p) (first 10 (drop from x))) (sym (g .later)) ∙ o .left)
 
-    took-here : Took (o .p) (fieldIn (take (e - from) (drop from x))) (λ r. sayLines (o .line + 1) r (first 10 (drop (e + 1) x)) (rest 10 (drop (e + 1) x))) (o .later)
-    took-here = took (o .line) (o .p) _ _ (o .later) next-left
+  pub lay-bad : r ≡ N.Malformed → Laid-out x b₀ (record { at = at; count = count }) b
+  lay-bad d = let k = took-here _ _ (was-bad x from r q d) in let z = k .said in clash cc
 
-    pub lay-bad : {r : Line} → r ≡ fieldIn (take (e - from) (drop from x)) → r ≡ L.Malformed → Laid-out x b₀ (record { at = at; count = count }) b
-    lay-bad {r} w d = let z : L.Malformed ≡ L.Field (took-here .f) = sym d ∙ w ∙ took-here .said in clash cc
+  module _ {f : Field} {next : ℕ} (d : r ≡ N.Field f next) where
+    went : Goes x from (L.Field f) next
+    went = was-field x from r q f next d
 
-    module _ {r : Line} (w : r ≡ fieldIn (take (e - from) (drop from x))) {f : Field} (d : r ≡ L.Field f) where
-      is-field : took-here .f ≡ f
-      is-field = let z : L.Field (took-here .f) ≡ L.Field f = sym (took-here .said) ∙ sym w ∙ d in cc
+    took-it : Took (o .p) (L.Field f) (λ p. sayLines (o .line + 1) p (first 10 (drop next x)) (rest 10 (drop next x))) (o .later)
+    took-it = took-here _ _ went
 
-      split : o .done ++ o .later ≡ (o .done ++ f ∷ []) ++ took-here .gs
-      split =
-          ap (λ (v : List Field). o .done ++ v) (took-here .are ∙ ap (λ (v : Field). v ∷ took-here .gs) is-field)
-          ∙ sym (append-assoc (o .done) (f ∷ []) (took-here .gs))
+    pub lay-less : length x - next < length x - from
+    lay-less = omega (arith, went .ahead, went .within)
 
-      long : length (encode (o .done)) + length (fieldBytes f) + 7 ≤ length (sheetOf (o .done ++ o .later))
-      long =
-          let s = sheet-long (o .done ++ o .later) (length (o .done ++ o .later)) in
-          let j = ap length (ap encode split ∙ encode-join (o .done ++ f ∷ []) (took-here .gs)) in
-          omega (arith, s, j, length-append (encode (o .done ++ f ∷ [])) (encode (took-here .gs)), ap length (encode-one (o .done) f), length-append (encode (o .done)) (fieldBytes f))
+    is-field : took-it .f ≡ f
+    is-field = let z = took-it .said in cc
 
-      pub lay-room : at + length (fieldBytes f) ≤ length b
-      lay-room = omega (arith, long, lay-length x b₀ from at count b o, o .place, o .room)
+    split : o .done ++ o .later ≡ (o .done ++ f ∷ []) ++ took-it .gs
+    split =
+        ap (λ (v : List Field). o .done ++ v) (took-it .are ∙ ap (λ (v : Field). v ∷ took-it .gs) is-field)
+        ∙ sym (append-assoc (o .done) (f ∷ []) (took-it .gs))
 
-      pub lay-next : {n : ℕ} {b′ : List ℕ} → (n ≡ at + length (fieldBytes f)) × (b′ ≡ over b at (fieldBytes f)) → Laying x b₀ (e + 1) n (count + 1) b′
-      lay-next {n} {b′} u =
-          let t : Wrote b₀ 0 (encode (o .done) ++ fieldBytes f) n b′ =
-          then {b = b₀} {p = encode (o .done)} {q = fieldBytes f} {b′ = b} {b″ = b′} {at = 0} {r = at} {r″ = n}
-          (λ g. record { next = omega (arith, o .place); bytes = o .bytes })
-          (λ g. record { next = u .0; bytes = u .1 })
-          (omega (arith, length-append (encode (o .done)) (fieldBytes f), long, o .room)) in
-          let one = encode-one (o .done) f in
-          record {
-            line = o .line + 1;
-            p = took-here .r;
-            done = o .done ++ f ∷ [];
-            later = took-here .gs;
-            says = o .says ∙ ap tells split;
-            left = took-here .after;
-            within = omega arith;
-            place = omega (arith, t .next, ap length one);
-            number = omega (arith, o .number, length-append (o .done) (f ∷ []));
-            bytes = t .bytes ∙ ap (λ (v : List ℕ). over b₀ 0 v) (sym one);
-            room = subst (λ (v : List Field). length (sheetOf v) ≤ length b₀) split (o .room);
-            small = subst (λ (v : List Field). length (sheetOf v) ≤ 1048576) split (o .small);
-          }
+    long : length (encode (o .done)) + length (fieldBytes f) + 7 ≤ length (sheetOf (o .done ++ o .later))
+    long =
+        let s = sheet-long (o .done ++ o .later) (length (o .done ++ o .later)) in
+        let j = ap length (ap encode split ∙ encode-join (o .done ++ f ∷ []) (took-it .gs)) in
+        omega (arith, s, j, length-append (encode (o .done ++ f ∷ [])) (encode (took-it .gs)), ap length (encode-one (o .done) f), length-append (encode (o .done)) (fieldBytes f))
 
-      pub lay-counts : Fits w32 (count + 1)
-      lay-counts = record { fits = omega (arith, o .number, encode-long (o .done), long, o .small) }
+    pub lay-room : at + length (fieldBytes f) ≤ length b
+    lay-room = omega (arith, long, lay-length x b₀ from at count b o, o .place, o .room)
 
-  pub lay-less : e < length x → length x - (e + 1) < length x - from
-  lay-less h = omega (arith, end-least 10 x from e q)
+    pub lay-next : {n : ℕ} {b′ : List ℕ} → (n ≡ at + length (fieldBytes f)) × (b′ ≡ over b at (fieldBytes f)) → Laying x b₀ next n (count + 1) b′
+    lay-next {n} {b′} u =
+        let t : Wrote b₀ 0 (encode (o .done) ++ fieldBytes f) n b′ =
+        then {b = b₀} {p = encode (o .done)} {q = fieldBytes f} {b′ = b} {b″ = b′} {at = 0} {r = at} {r″ = n}
+        (λ g. record { next = omega (arith, o .place); bytes = o .bytes })
+        (λ g. record { next = u .0; bytes = u .1 })
+        (omega (arith, length-append (encode (o .done)) (fieldBytes f), long, o .room)) in
+        let one = encode-one (o .done) f in
+        record {
+          line = o .line + 1;
+          p = took-it .r;
+          done = o .done ++ f ∷ [];
+          later = took-it .gs;
+          says = o .says ∙ ap tells split;
+          left = took-it .after;
+          within = went .within;
+          place = omega (arith, t .next, ap length one);
+          number = omega (arith, o .number, length-append (o .done) (f ∷ []));
+          bytes = t .bytes ∙ ap (λ (v : List ℕ). over b₀ 0 v) (sym one);
+          room = subst (λ (v : List Field). length (sheetOf v) ≤ length b₀) split (o .room);
+          small = subst (λ (v : List Field). length (sheetOf v) ≤ 1048576) split (o .small);
+        }
+
+    pub lay-counts : Fits w32 (count + 1)
+    lay-counts = record { fits = omega (arith, o .number, encode-long (o .done), long, o .small) }
 
 -- ---- the whole
 

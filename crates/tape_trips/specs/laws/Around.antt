@@ -5,22 +5,21 @@
 --     there-and-back  and so for what both directions put into buffers with room
 --     back-and-there
 -- Assumes nothing.
-use Prim.Native.Nat.{ℕ, zero, suc, _+_, _-_, _≤_, _<_}
+use Prim.Native.Nat.{ℕ, suc, _+_, _-_, _≤_, _<_}
 use mathlib.Core.Bool.{Bool, true, false, cond}
 use mathlib.Core.Path.{_≡_, refl, sym, ap, _∙_, subst}
 use mathlib.Core.List.{List, [], _∷_, _++_}
-use native.Mathlib.Decide.{decLe}
 use native.Mathlib.Omega.{arith}
-use lib.Dec.{eqb, leb, ltb}
+use lib.Dec.{leb}
 use lib.ListN.{length, length-append}
-use borrow.Author.Tests.{eq-eqb, ne-eqb, le-leb, lt-leb, lt-ltb, leb-true}
+use borrow.Author.Tests.{eq-eqb, ne-eqb, le-leb, lt-ltb, leb-true}
 use Rattle.numerals.specs.laws.Numerals.{clash}
 use Rattle.wire.specs.Big.{Bytes}
 use Rattle.field.specs.declared.Field.{Field}
 use Rattle.field.specs.declared.Field.the-variants as F
-use Rattle.field.specs.Judging.{fine, unless, also, judge}
+use Rattle.field.specs.Judging.{unless, also, judge}
 use Rattle.admit.specs.declared.Progress.{Progress}
-use Rattle.admit.specs.Admitting.{start, Step, goes, ends, stops, admit, admitted, admitNumber, placed, countNumber}
+use Rattle.admit.specs.Admitting.{start, goes, ends, admit, admitted, admitNumber, placed, countNumber}
 use Rattle.admit.specs.laws.Admitting.{Passed, went, ended, went-counts, kept, end-is, admit-fine}
 use Rattle.sheet.specs.declared.Day.{Day}
 use Rattle.sheet.specs.Fields.{fieldsOf, encode}
@@ -29,16 +28,15 @@ use Rattle.sheet.specs.laws.Accepted.{Chain, last, more, accepted-chain, accept
 use Rattle.sheet.specs.laws.Led.{stood-long}
 use Rattle.sheet.specs.laws.Encoding.{accepted-encodes, encoded-accepted}
 use Rattle.price_rules.specs.Closing.{answersBy, answersOf}
-use Rattle.items.specs.Items.{first, rest, pieces, joinedTo}
-use Rattle.items.specs.laws.Items.{Cut, cut-at, join-items}
-use Rattle.line_reader.specs.declared.Line.{Line}
+use Rattle.items.specs.Items.{first, rest, joinedTo}
+use Rattle.items.specs.laws.Items.{cut-at, join-items}
 use Rattle.line_reader.specs.declared.Line.the-variants as L
 use Rattle.line_reader.specs.Lines.{fieldIn, lineOf}
-use Rattle.line_reader.specs.laws.Trips.{Lined, line-read, read-line, line-lacks}
+use Rattle.line_reader.specs.laws.Trips.{line-read, read-line, line-lacks}
 use Rattle.tape.specs.Tape.{LinesSay, tells, bad, with, capped, atLast, onward, sayLine, sayLines, textSays, Made, made, refused, sheetOf, sheetMade, lineText, textOf, textMade, inRoom, tapeToSheet, sheetToTape}
 use Rattle.tape.specs.laws.Measuring.{encode-long}
 use Rattle.tape.specs.laws.Track.{capped-same}
-use Rattle.tape.specs.laws.Taken.{Closed, closed, Took, took, lined, text-more}
+use Rattle.tape.specs.laws.Taken.{closed, took, lined, text-more}
 
 -- ---- the right end is admitted
 

@@ -1,5 +1,5 @@
 -- TAPE 6: a text has at most three bytes for each byte of its sheet. Assumes nothing.
-use Prim.Native.Nat.{ℕ, zero, suc, _+_, _*_, _/_, _%_, _^_, _≤_, _<_}
+use Prim.Native.Nat.{ℕ, suc, _+_, _*_, _/_, _%_, _≤_, _<_}
 use mathlib.Core.Path.{_≡_, refl, sym, ap, _∙_, subst}
 use mathlib.Core.Bool.{Bool, true, false}
 use mathlib.Core.List.{List, [], _∷_, _++_}
@@ -18,10 +18,10 @@ use Rattle.field.specs.declared.Field.{Field}
 use Rattle.field.specs.declared.Field.the-variants as F
 use Rattle.field.specs.Judging.{hasBid, hasOffer}
 use Rattle.field.specs.Layout.{tagOf, sizeOf, fieldBytes}
-use Rattle.field.specs.laws.Field.{both-true, within-true, field-length}
+use Rattle.field.specs.laws.Field.{both-true, field-length}
 use Rattle.field.specs.laws.Sound.{Sound, price-size, sides-size}
 use Rattle.admit.specs.declared.Progress.{Progress}
-use Rattle.admit.specs.Admitting.{start, admit, goes, ends}
+use Rattle.admit.specs.Admitting.{admit, ends}
 use Rattle.admit.specs.laws.Admitting.{went, ended, passed-sound, first-header, later-not-header, kept, end-is}
 use Rattle.sheet.specs.declared.Day.{Day}
 use Rattle.sheet.specs.Fields.{fieldsOf, encode}

@@ -1,7 +1,6 @@
 -- `tape_writer::has_room` meets its contract: by three bytes for each, or by measuring. Assumes nothing.
 use lib.Dec.{leb}
-use mathlib.Core.Path.{_≡_, sym, ap, _∙_}
-use lib.ListN.{length}
+use mathlib.Core.Path.{ap}
 use denote.Ref.{now}
 use borrow.Author.Needs.{needs}
 use Rattle.tape_writer.specs.laws.Lining.{room-three}

@@ -1,6 +1,4 @@
 -- `tape_writer::put_text` meets its contract. Assumes nothing.
-use mathlib.Core.Path.{_≡_, sym, ap, _∙_}
-use lib.ListN.{length}
 use denote.Ref.{now}
 use borrow.Author.Needs.{needs}
 use Rattle.tape_writer.specs.laws.Lining.{text-fits, text-put, text-not}

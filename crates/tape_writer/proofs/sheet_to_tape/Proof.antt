@@ -1,6 +1,4 @@
 -- `tape_writer::sheet_to_tape` meets its contract: the sheet's own refusal, no room, or the text. Assumes nothing.
-use mathlib.Core.Path.{_≡_, sym, ap, _∙_}
-use lib.ListN.{length}
 use denote.Ref.{now}
 use borrow.Author.Needs.{needs}
 use Rattle.tape_writer.specs.laws.Lining.{sheet-readable, sheet-text, sheet-refused}

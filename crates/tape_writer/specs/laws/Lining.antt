@@ -1,18 +1,17 @@
 -- What holds as the lines of a sheet's fields are measured and put into the buffer, and what the answers of `sheet_to_tape` are. Assumes nothing.
-use Prim.Native.Nat.{ℕ, zero, suc, _+_, _-_, _*_, _/_, _≤_, _<_}
-use mathlib.Core.Bool.{Bool, true, false, cond}
+use Prim.Native.Nat.{ℕ, _+_, _-_, _*_, _/_, _≤_, _<_}
+use mathlib.Core.Bool.{Bool, true, false}
 use mathlib.Core.Path.{_≡_, refl, sym, ap, _∙_, subst}
 use mathlib.Core.List.{List, [], _∷_, _++_, append-assoc, append-nil}
 use native.Mathlib.Omega.{arith}
 use native.Mathlib.Nat.{le-div-iff-mul-le}
 use lib.Dec.{leb}
-use lib.ListN.{length, drop, length-append, length-drop}
-use borrow.Author.Tests.{le-leb, lt-leb, leb-true}
+use lib.ListN.{length, length-append}
+use borrow.Author.Tests.{le-leb, leb-true}
 use mir.Syntax.{w64}
 use mir.Val.{Fits}
 use Rattle.text.specs.Over.{over}
 use Rattle.text.specs.laws.Putting.{Wrote, over-length, then}
-use Rattle.numerals.specs.laws.Numerals.{clash}
 use Rattle.wire.specs.Big.{Bytes}
 use Rattle.field.specs.declared.Field.{Field}
 use Rattle.field.specs.declared.Read.{Read}
@@ -24,12 +23,12 @@ use Rattle.sheet.specs.declared.Day.{Day}
 use Rattle.sheet.specs.declared.Judged.{Judged}
 use Rattle.sheet.specs.declared.Judged.the-variants as J
 use Rattle.sheet.specs.Fields.{fieldsAt, fieldsOf, Each}
-use Rattle.sheet.specs.Judgement.{Verdict, accepts, refuses-at, judgeSheet, judgedSays}
+use Rattle.sheet.specs.Judgement.{Verdict, accepts, judgeSheet, judgedSays}
 use Rattle.sheet.specs.laws.Accepted.{accepted-sound, accepted-small}
 use Rattle.sheet.specs.laws.Passes.{Sofar, sofar-start, sofar-stop, sofar-next, sofar-here}
 use Rattle.tape.specs.declared.Filled.{Filled}
 use Rattle.tape.specs.declared.Filled.the-variants as Filled
-use Rattle.tape.specs.Tape.{lineText, textOf, textMade, Made, made, refused, inRoom, sheetToTape, bufferWith, filled}
+use Rattle.tape.specs.Tape.{lineText, textOf, textMade, Made, made, refused, inRoom, sheetToTape}
 use Rattle.tape.specs.laws.Filling.{Answers, answers}
 use Rattle.tape_trips.specs.laws.Short.{line-most, text-short}
 
