@@ -285,6 +285,7 @@ fn stamp_at(s: &[u8], at: usize) -> StampAt
     }
 }
 
+// No trade and no quote.
 fn no_record() -> RecordAt
     ensures { λ r. ⌜ r .next ≡ 0 ⌝ }
 {

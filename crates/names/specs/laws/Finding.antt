@@ -16,7 +16,7 @@ use Rattle.numerals.specs.laws.Numerals.{clash}
 use Rattle.market.specs.laws.Table.{both, both-left, both-right, below, from-one}
 use Rattle.names.specs.declared.Name.{Name}
 use Rattle.names.specs.Names.{metalNames, metalName, instrumentNames, instrumentName, same, numberOf, metalIn, instrumentIn, inName}
-use Rattle.names.specs.laws.Names.{name-bytes, name-short, instrument-length}
+use Rattle.names.specs.laws.Names.{name-bytes, name-short, metal-length, instrument-length}
 
 -- ---- the same bytes
 
@@ -86,10 +86,10 @@ module _ (names : List (List ℕ)) (from : ℕ) (s : List ℕ) where
         let z : suc (k - from) ≡ k + 1 - from = omega (arith, o .least) in
         drop-cons names (k - from) [] (omega (arith, o .least)) ∙ ap (λ (i : ℕ). getD names (k - from) [] ∷ drop i names) z
 
-    pub seek-found : k < from + length names → same (getD names (k - from) []) s ≡ true → Value k ≡ numberOf s names from
+    seek-found : k < from + length names → same (getD names (k - from) []) s ≡ true → Value k ≡ numberOf s names from
     seek-found h e = rw (o .same-answer, here h) (simp e)
 
-    pub seek-next : k < from + length names → same (getD names (k - from) []) s ≡ false → Seeking names from s (k + 1)
+    seek-next : k < from + length names → same (getD names (k - from) []) s ≡ false → Seeking names from s (k + 1)
     seek-next h e = record { least = omega (arith, o .least); same-answer = o .same-answer ∙ rw (here h) (simp (e, add-one)) }
 
     pub seek-none : from + length names ≤ k → Malformed ≡ numberOf s names from
@@ -106,8 +106,20 @@ unfolding instrumentName
 seek-instrument i h = let z : i ≡ i - 0 = omega arith in ap (λ (k : ℕ). getD instrumentNames k []) z
 
 -- what a comparison with a name by value says of the table's name
-pub compared : (row name s : List ℕ) (held : Name) (r : Bool) → row ≡ name → held ≡ inName row → r ≡ same (take (held .len) (held .bytes)) s → same name s ≡ r
+compared : (row name s : List ℕ) (held : Name) (r : Bool) → row ≡ name → held ≡ inName row → r ≡ same (take (held .len) (held .bytes)) s → same name s ≡ r
 compared row name s held r e h q = sym (q ∙ ap (λ n. same n s) (name-bytes row held h ∙ e))
+
+-- a turn of the code, for a table whose names are given by number
+module _ (names : List (List ℕ)) (from : ℕ) (name : ℕ → List ℕ) (row : (k : ℕ) → from ≤ k → name k ≡ getD names (k - from) []) where
+  module _ (s : List ℕ) (k : ℕ) (o : Seeking names from s k) (h : k < from + length names) (held : Name) (r : Bool) (e : held ≡ inName (name k)) (q : r ≡ same (take (held .len) (held .bytes)) s) where
+    asked : same (getD names (k - from) []) s ≡ r
+    asked = compared (name k) _ s held r (row k (o .least)) e q
+
+    pub turn-found : r ≡ true → Value k ≡ numberOf s names from
+    turn-found d = seek-found names from s k o h (asked ∙ d)
+
+    pub turn-next : r ≡ false → Seeking names from s (k + 1)
+    turn-next d = seek-next names from s k o h (asked ∙ d)
 
 -- ---- a number that was found
 
@@ -181,5 +193,9 @@ metal-known m l h = known (metalIn (metalName m)) (metalName m) m (from-one (λ 
 pub instrument-is : (i : ℕ) (s : List ℕ) (held : Name) (r : Bool) → held ≡ inName (instrumentName i) → r ≡ same (take (held .len) (held .bytes)) s → r ≡ true → i ≤ 11 → Value i ≡ instrumentIn s
 instrument-is i s held r h q e l = sym (instrument-known i l .found) ∙ ap instrumentIn (same-is (instrumentName i) s (compared (instrumentName i) _ s held r refl h q ∙ e))
 
+-- how long a name by value is
 pub instrument-short : (i : ℕ) (held : Name) → held ≡ inName (instrumentName i) → held .len ≤ 9
 instrument-short i held h = name-short (instrumentName i) held h (omega (arith, instrument-length i))
+
+pub metal-short : (m : ℕ) (held : Name) → held ≡ inName (metalName m) → held .len ≤ 9
+metal-short m held h = name-short (metalName m) held h (metal-length m)

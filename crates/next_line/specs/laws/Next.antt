@@ -75,13 +75,14 @@ pub record Goes (s : List ℕ) (at : ℕ) (said : Line) (next : ℕ) : Type 0 wh
   pub ahead : at < next
   pub within : next ≤ length s
 
+-- by each answer
 Means : List ℕ → ℕ → NextLine → Type 0
 Means s at (N.Field f next) = Goes s at (L.Field f) next
 Means s at N.Malformed = Goes s at L.Malformed (endOf 10 s at + 1)
 Means s at N.Last = Ends s at
 
 no-more : (t : List ℕ) → rest 10 t ≡ [] → first 10 t ≡ t
-no-more t e = (rw e at (join-items 10 t))
+no-more t e = rw e at (join-items 10 t)
 
 means : (s : List ℕ) (at : ℕ) → Means s at (nextLine s at)
 unfolding Means

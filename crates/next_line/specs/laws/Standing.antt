@@ -13,6 +13,7 @@ use mir.Val.{Fits}
 use Rattle.text.specs.Decimal.{digit, decimal}
 use Rattle.numerals.specs.laws.Numerals.{one, longer}
 
+-- the text has these bytes from a place on, and another place is behind them
 pub record Stands (s : List ℕ) (at : ℕ) (p : List ℕ) (next : ℕ) : Type 0 where
   pub there : drop at s ≡ p ++ drop next s
   pub behind : next ≡ at + length p
