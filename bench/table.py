@@ -77,10 +77,22 @@ def text_table(times, counts):
     print()
 
 
+def text_counts(counts):
+    """The same without times."""
+    print('| Work | Text | Bytes of text | instructions a byte (library / independent) | library / independent |')
+    print('|---|---|---:|---:|---:|')
+    for (work, text, size), each in counts.items():
+        if work in ON_TEXTS:
+            print(f'| {work} | {TEXTS[text]} | {size:,} | ' + ' / '.join(figure(each[side] / size) for side in SIDES[:2])
+                  + f' | {ratio(each, "independent")} |')
+    print()
+
+
 def main():
     if sys.argv[1] == '--emulated':
         counts, sides = numbers(sys.argv[2]), [side for side in SIDES if side != 'independent']
         table(counts, counted(sides), lambda *key: [instructions(counts.get((*key, size), {}), size, sides) for size in SIZES])
+        text_counts(counts)
         return
     times, counts = numbers(sys.argv[1]), numbers(sys.argv[2])
 

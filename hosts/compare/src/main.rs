@@ -50,7 +50,7 @@ fn run(words: &[String]) -> Result<(), String> {
 
 fn row_of_seeds(first: u64, accepted: u64, damaged: u64, times: u64) -> Result<(), String> {
     println!("{} named cases as they are written by hand", named::hold()?);
-    println!("{} named texts and sheets, each turned as it is written by hand", named::hold_tapes()?);
+    println!("{} named texts and sheets, each turned as it is written by hand, and the texts with lines behind them", named::hold_tapes()?);
     let (mut all, mut all_tapes) = (Tally::default(), TapeTally::default());
     for seed in first..first + times {
         let tally = compare(&Plan { seed, accepted, damaged })?;

@@ -2,7 +2,7 @@
 //! independent program's.
 
 use crate::same;
-use crate::tapes::{Told, Turning, TO_SHEET, TO_TAPE};
+use crate::tapes::{look, Told, Turning, TO_SHEET, TO_TAPE};
 use bliskoru::CONTRACTS;
 use independent::named::tapes::{large_tapes, large_untapes, named_tapes, named_untapes, NamedTape};
 use independent::named::{large_cases, named_cases, NamedCase};
@@ -39,9 +39,20 @@ fn answers_as_lines(case: &NamedCase) -> String {
     format!("{metal}\n{}", lines.collect::<String>())
 }
 
-/// Every named text and sheet that is turned, the longest among them; how many they are, or the first that differs.
+/// Lines that may stand behind those of any day: with them no line of a named text is among the last of its text, which the library reads by
+/// another way.
+const BEHIND: &[u8] = b"86399999,3M,TRADE,1.00,1\n86399999,3M,QUOTE,1.00,-\n86399999,3M,TRADE,1.00,1\n";
+
+/// Every named text and sheet that is turned, the longest among them, and each text with lines behind it; how many they are, or the first that
+/// differs.
 pub fn hold_tapes() -> Result<usize, String> {
     let texts = [named_tapes(), large_tapes()].concat();
+    for case in &texts {
+        let longer = [&case.input, BEHIND].concat();
+        if let Err(difference) = look(&longer) {
+            return Err(format!("{} with lines behind it: {difference}", case.name));
+        }
+    }
     let sheets = [named_untapes(), large_untapes()].concat();
     let turned = texts.iter().map(|case| (case, &TO_SHEET));
     for (case, turning) in turned.chain(sheets.iter().map(|case| (case, &TO_TAPE))) {
