@@ -1,7 +1,6 @@
 // Prices as the tape has them: dollars with two decimals, a minus before a negative one, no negative zero.
 ghost use mathlib.Core.Path.{_≡_};
 ghost use Prim.Native.Nat.{_-_, _<_, _^_};
-ghost use lib.ListN.{length};
 ghost use Rattle.dollars.specs.Dollars.{pointed, cents, upward, downward, price};
 use field::Price;
 use numerals::Number;

@@ -1,6 +1,6 @@
 // A field's line, with its line feed, at a place of a lent buffer, item by item. Hosts do not call it: it asks that the buffer has room for the line.
 ghost use mathlib.Core.Path.{_≡_};
-ghost use mathlib.Core.List.{_∷_, _++_, []};
+ghost use mathlib.Core.List.{_∷_, _++_};
 ghost use Prim.Native.Nat.{_+_, _≤_};
 ghost use lib.ListN.{length, take};
 ghost use Rattle.text.specs.Over.{over};

@@ -4,7 +4,7 @@ ghost use mathlib.Core.Path.{_≡_};
 ghost use mathlib.Core.List.{[], _∷_};
 ghost use Prim.Native.Nat.{_+_, _^_, _≤_, _<_};
 ghost use lib.IntN.{natAbs};
-ghost use lib.ListN.{length, getD};
+ghost use lib.ListN.{length};
 ghost use Rattle.text.specs.Decimal.{decimal};
 ghost use Rattle.dollars.specs.Dollars.{amount, priceText, priced};
 ghost use Rattle.names.specs.Names.{instrumentName};
@@ -21,7 +21,7 @@ use names::instrument_in;
 use names::is_name;
 use numerals::Number;
 
-// The field of the line and the place behind its line feed.
+// The field of the line and the place behind its line feed; or the line is malformed; or no line feed follows.
 pub enum NextLine {
     Field(Field, usize),
     Malformed,
