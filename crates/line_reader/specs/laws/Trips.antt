@@ -8,11 +8,11 @@ use mathlib.Core.Bool.{Bool, true, false, cond}
 use mathlib.Core.Path.{_≡_, refl, sym, ap, _∙_}
 use mathlib.Core.List.{List, [], _∷_}
 use native.Mathlib.Omega.{arith}
-use lib.Dec.{leb}
+use lib.Dec.{eqb, leb}
 use lib.IntN.{ℤ, pos, negsuc, natAbs}
 use lib.Signed.{leZ}
 use mathlib.Core.Logic.{_⊎_, inl, inr, ⊎-elim}
-use borrow.Author.Tests.{leb-true}
+use borrow.Author.Tests.{eq-eqb, ne-eqb, leb-true}
 use Rattle.text.specs.Ascii.{ascii}
 use Rattle.text.specs.Decimal.{decimal}
 use Rattle.numerals.specs.declared.Number.the-variants as N
@@ -49,7 +49,7 @@ told most n l h = reads-written most n (omega arith) l
 plain : (c n : ℕ) → isDigit c ≡ false → n < 10 ^ 19 → lacks c (decimal n) ≡ true
 plain c n d h = number-lacks c n n (decimal n) d (told n n (omega arith) h)
 
-bitOf : Bool → ℕ
+pub bitOf : Bool → ℕ
 bitOf true = 1
 bitOf false = 0
 
@@ -285,7 +285,7 @@ side-back s b p present e h q = ⊎-elim (λ w. dash present w q) (λ w. some pr
     some false w q = absurd (omega (arith, w .0))
 
 -- both bits, read off their sum
-bits : (x y : ℕ) → x ≤ 1 → y ≤ 1 → (bitOf (hasBid (x + 2 * y)) ≡ x) × (bitOf (hasOffer (x + 2 * y)) ≡ y)
+pub bits : (x y : ℕ) → x ≤ 1 → y ≤ 1 → (bitOf (hasBid (x + 2 * y)) ≡ x) × (bitOf (hasOffer (x + 2 * y)) ≡ y)
 unfolding bitOf
 bits zero zero h g = (refl, refl)
 bits zero (suc zero) h g = (refl, refl)
@@ -294,6 +294,12 @@ bits (suc zero) (suc zero) h g = (refl, refl)
 bits (suc (suc x)) y h g = absurd (omega arith)
 bits zero (suc (suc y)) h g = absurd (omega arith)
 bits (suc zero) (suc (suc y)) h g = absurd (omega arith)
+
+-- a side is there where its bit is 1
+pub bit-there : (b : Bool) (x : ℕ) → bitOf b ≡ x → eqb x 1 ≡ b
+unfolding bitOf
+bit-there true x e = eq-eqb x 1 (sym e)
+bit-there false x e = ne-eqb x 1 (λ g. omega arith)
 
 quote-back : (least : ℕ) (a b c d : List ℕ) (f : Field) → quoteIn a b c d ≡ Says f → judge least f ≡ fine → itemsOf f ≡ a ∷ b ∷ ascii "QUOTE" ∷ c ∷ d ∷ []
 unfolding quoteIn itemsOf

@@ -26,11 +26,11 @@ use Rattle.names.specs.Names.{same, instrumentIn, instrumentName}
 use Rattle.names.specs.laws.Finding.{same-is, instrument-found}
 use Rattle.line_reader.specs.Lines.{sideText, lineOf}
 use Rattle.line_reader.specs.laws.Pieces.{trade-line, quote-line}
-use Rattle.line_reader.specs.laws.Trips.{Lined, Shown, Legible}
+use Rattle.line_reader.specs.laws.Trips.{Lined, Shown, Legible, bits, bit-there}
 use Rattle.next_line.specs.declared.SideAt.{SideAt}
 use Rattle.next_line.specs.declared.StampAt.{StampAt}
 use Rattle.next_line.specs.declared.RecordAt.{RecordAt}
-use Rattle.next_line.specs.laws.Standing.{Stands, Found, Near, Digit-at, then, same-bytes, stands-byte, stands-part, found, found-none, nonzero}
+use Rattle.next_line.specs.laws.Standing.{Stands, Found, Near, Digit-at, then, same-bytes, stands-byte, stands-part, found, found-none}
 
 -- what holds where a place is handed back
 pub record Where (next : ℕ) (A : Type 0) : Type 0 where
@@ -139,7 +139,7 @@ unfolding signedAs behindSign negativeZero
 signed-found s at from true n next h m e f z =
     let g : Found s (at + 1) 12 (amount n) next = subst (λ (v : ℕ). Found s v 12 (amount n) next) e f in
     record {
-      stands = λ k. same-bytes (price-minus n (nonzero n (eqb-false n 0 z))) (then (stands-byte s at 45 (omega arith) (eqb-true (getD s at 0) 45 (sym m))) (g .stands k));
+      stands = λ k. same-bytes (price-minus n (omega (arith, eqb-false n 0 z))) (then (stands-byte s at 45 (omega arith) (eqb-true (getD s at 0) 45 (sym m))) (g .stands k));
       near = omega (arith, g .near);
     }
 signed-found s at from false n next h m e f z =
@@ -249,16 +249,6 @@ pub record Record-found (s : List ℕ) (at : ℕ) (r : RecordAt) : Type 0 where
 pub no-record : (s : List ℕ) (at : ℕ) (r : RecordAt) → r .next ≡ 0 → Record-found s at r
 no-record s at r e = record { here = nowhere (r .next) e }
 
--- the two bits, read off their sum
-bits : (x y : ℕ) → x ≤ 1 → y ≤ 1 → (eqb x 1 ≡ hasBid (x + 2 * y)) × (eqb y 1 ≡ hasOffer (x + 2 * y)) × (x + 2 * y ≤ 3)
-bits zero zero h g = (refl, refl, omega arith)
-bits zero (suc zero) h g = (refl, refl, omega arith)
-bits (suc zero) zero h g = (refl, refl, omega arith)
-bits (suc zero) (suc zero) h g = (refl, refl, omega arith)
-bits (suc (suc x)) y h g = absurd (omega arith)
-bits zero (suc (suc y)) h g = absurd (omega arith)
-bits (suc zero) (suc (suc y)) h g = absurd (omega arith)
-
 module _ (s : List ℕ) (at : ℕ) (stamp : StampAt) (f : Stamp-found s at stamp) (m : stamp .next ≡ 0 → ⊥) (word : ℕ) where
   module _ (w : Found s (stamp .next) 7 (ascii ",TRADE,") word) (q : word ≡ 0 → ⊥) where
     trade-is : (k : Field) (next : ℕ) → Trade-is s word (stamp .time) (stamp .instrument) k next → Record-is s at k next
@@ -277,13 +267,15 @@ module _ (s : List ℕ) (at : ℕ) (stamp : StampAt) (f : Stamp-found s at stamp
     quote-is : (k : Field) (next : ℕ) → Quote-is s word (stamp .time) (stamp .instrument) k next → Record-is s at k next
     quote-is k next t =
         let z = bits (t .x) (t .y) (t .bits .0) (t .bits .1) in
-        let tail = rw (z .0, z .1) at (t .tail) in
-        let low = rw (z .0) at (t .shown .0) in
-        let high = rw (z .1) at (t .shown .1) in
+        let bid = bit-there (hasBid (t .x + 2 * t .y)) (t .x) (z .0) in
+        let offer = bit-there (hasOffer (t .x + 2 * t .y)) (t .y) (z .1) in
+        let tail = rw (bid, offer) at (t .tail) in
+        let low = rw bid at (t .shown .0) in
+        let high = rw offer at (t .shown .1) in
         subst (λ (v : Field). Record-is s at v next) (sym (t .is))
         (record {
           line = same-bytes (quote-line (stamp .time) (stamp .instrument) (t .x + 2 * t .y) (t .bid) (t .offer)) (then (f .stamp .stands m) (then (w .stands q) tail));
-          legible = (omega (arith, f .small), f .few, z .2, low, high);
+          legible = (omega (arith, f .small), f .few, omega (arith, t .bits .0, t .bits .1), low, high);
           lined = tt;
         })
 

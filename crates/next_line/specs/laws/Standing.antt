@@ -1,6 +1,6 @@
 -- What stands in a text at a place, and the number that does. Pieces that stand one behind the other are their join, as for pieces that are put.
 -- Assumes nothing.
-use Prim.Native.Nat.{ℕ, zero, suc, _+_, _-_, _*_, _^_, _≤_, _<_}
+use Prim.Native.Nat.{ℕ, suc, _+_, _-_, _*_, _^_, _≤_, _<_}
 use mathlib.Core.Path.{_≡_, refl, sym, ap, _∙_, subst}
 use mathlib.Core.List.{List, [], _∷_, _++_, append-assoc}
 use native.Mathlib.Nat.{pow-suc, pow-le-pow-right}
@@ -78,10 +78,6 @@ nine k h = let ten : 0 < 10 = omega arith in pow-le-pow-right ten h
 eight : (k : ℕ) → k < 9 → 10 ^ k ≤ 100000000
 eight k h = let ten : 0 < 10 = omega arith in let l : k ≤ 8 = omega arith in pow-le-pow-right ten l
 
-pub nonzero : (d : ℕ) → (d ≡ 0 → ⊥) → 1 ≤ d
-nonzero zero h = absurd (h refl)
-nonzero (suc d) h = omega arith
-
 module _ (s : List ℕ) (at : ℕ) (room : at + 9 ≤ length s) where
   single : (d : ℕ) → d ≤ 9 → Digit-at s at d → Stands s at (decimal d) (at + 1)
   single d h e = same-bytes (sym (one 19 d (omega arith))) (stands-byte s at (digit d) (omega arith) (e .is h))
@@ -90,7 +86,7 @@ module _ (s : List ℕ) (at : ℕ) (room : at + 9 ≤ length s) where
   number-zero d e h z = found (subst (λ (v : ℕ). Stands s at (decimal v) (at + 1)) z (single d h e)) (omega arith)
 
   pub number-start : (d : ℕ) → Digit-at s at d → d ≤ 9 → (d ≡ 0 → ⊥) → OnNumber s at d 1
-  number-start d e h z = record { stands = single d h e; some = nonzero d z; small = omega arith; short = omega arith }
+  number-start d e h z = record { stands = single d h e; some = omega (arith, z); small = omega arith; short = omega arith }
 
   module _ (n k : ℕ) (o : OnNumber s at n k) where
     pub number-end : Found s at 9 (decimal n) (at + k)

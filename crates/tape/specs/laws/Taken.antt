@@ -1,5 +1,5 @@
 -- What the lines of an accepted text were: each a field that may come next, and behind the last line feed nothing. Assumes nothing.
-use Prim.Native.Nat.{ℕ, zero, suc, _+_, _≤_}
+use Prim.Native.Nat.{ℕ, _+_, _≤_}
 use mathlib.Core.Bool.{Bool, true, false, cond}
 use mathlib.Core.Path.{_≡_, refl, ap, _∙_}
 use mathlib.Core.List.{List, [], _∷_, _++_, append-assoc}
@@ -24,17 +24,13 @@ pub record Closed (p : Progress) (size : ℕ) (fs : List Field) : Type 0 where
   pub headed : 1 ≤ p .stage
   pub none : fs ≡ []
 
-some : (n : ℕ) → (n ≡ 0 → ⊥) → 1 ≤ n
-some zero h = absurd (h refl)
-some (suc n) h = omega arith
-
 pub closed : (line size : ℕ) (p : Progress) (fs : List Field) → atLast line p size ≡ tells fs → Closed p size fs
 unfolding atLast
 closed line size p fs e = by-test (eqb size 0) refl (eqb (p .stage) 0) refl e
   where
     by-test : (t : Bool) → eqb size 0 ≡ t → (u : Bool) → eqb (p .stage) 0 ≡ u → cond t (cond u (bad 5 1) (tells [])) (bad 17 line) ≡ tells fs → Closed p size fs
     by-test true h true k g = clash cc
-    by-test true h false k g = record { nothing = eqb-true size 0 h; headed = some (p .stage) (eqb-false (p .stage) 0 k); none = cc }
+    by-test true h false k g = record { nothing = eqb-true size 0 h; headed = omega (arith, eqb-false (p .stage) 0 k); none = cc }
     by-test false h u k g = clash cc
 
 -- what a line was
