@@ -13,8 +13,8 @@ enum { LONGEST_LISTED = 65536, LIST_ROOM = 256 };
 
 /* A field's three head bytes as `head` loads them, and the bytes of the whole field. */
 #define HEAD(tag, length) ((tag) | (length) << 16)
-enum { HEADER = HEAD(1, 3), CLOSE = HEAD(2, 5), TRADE = HEAD(3, 11), QUOTE = HEAD(4, 14), END = HEAD(5, 4) };
-enum { HEADER_BYTES = 6, CLOSE_BYTES = 8, TRADE_BYTES = 14, QUOTE_BYTES = 17, END_BYTES = 7 };
+enum { HEADER = HEAD(1, 3), CLOSE = HEAD(2, 5), TRADE = HEAD(3, 11), QUOTE = HEAD(4, 14), END = HEAD(5, 4), LONG_HEADER = HEAD(6, 4) };
+enum { HEADER_BYTES = 6, CLOSE_BYTES = 8, TRADE_BYTES = 14, QUOTE_BYTES = 17, END_BYTES = 7, LONG_HEADER_BYTES = 7 };
 
 INLINE uint64_t big64(Bytes p) {
     uint64_t word;
@@ -29,18 +29,24 @@ INLINE uint32_t head(Bytes p) {
     return word & 0xFFFFFF;
 }
 
-/* The prices of an instrument: `count` of them from `low` on. None for a byte that is no instrument, so that one comparison judges both. */
+/* The prices of an instrument: `count` of them from `low` on. None for a byte that is no instrument or a barred one, so that one comparison judges
+   all three. */
 struct range {
     uint32_t low, count;
 };
+#define OUTRIGHT {1, 99999999}
 #define SPREAD {(uint32_t)-9999999, 19999999}
-static const struct range RANGES[256] = {
-    {1, 99999999}, SPREAD, SPREAD, SPREAD, SPREAD, SPREAD, SPREAD, SPREAD, SPREAD, SPREAD, SPREAD, SPREAD,
+#define BARRED {0, 0}
+/* By a header's third value, with 0 for a short header too. */
+static const struct range RANGES[3][256] = {
+    {OUTRIGHT, SPREAD, SPREAD, SPREAD, SPREAD, SPREAD, SPREAD, SPREAD, SPREAD, SPREAD, SPREAD, SPREAD},
+    {OUTRIGHT, BARRED, BARRED, SPREAD, SPREAD, SPREAD, BARRED, SPREAD, SPREAD, BARRED, SPREAD, SPREAD},
+    {OUTRIGHT, SPREAD, SPREAD, SPREAD, BARRED, BARRED, BARRED, SPREAD, SPREAD, SPREAD, BARRED, SPREAD},
 };
 
-INLINE struct range range_of(uint8_t instrument) {
+INLINE struct range range_of(const struct range *ranges, uint8_t instrument) {
     uint64_t word;
-    memcpy(&word, &RANGES[instrument], sizeof word);
+    memcpy(&word, &ranges[instrument], sizeof word);
     return (struct range){(uint32_t)word, (uint32_t)(word >> 32)};
 }
 
@@ -49,38 +55,39 @@ INLINE int priced(struct range range, uint32_t price) {
 }
 
 /* A quote with sides other than 3 is good, its time aside. */
-static __attribute__((noinline)) int good_with_a_side_absent(Bytes p) {
-    struct range range = range_of(p[7]);
+static __attribute__((noinline)) int good_with_a_side_absent(Bytes p, const struct range *ranges) {
+    struct range range = range_of(ranges, p[7]);
     uint32_t sides = p[8], bid = big32(p + 9), offer = big32(p + 13);
     return sides < 3 && range.count && (sides & 1 ? priced(range, bid) : !bid) && (sides & 2 ? priced(range, offer) : !offer);
 }
 
+/* A whole header, short or long, by its tag. */
 INLINE int good_header(Bytes p) {
-    return p[3] - 1u < 5 && big16(p + 4) < 0x800;
+    return p[3] - 1u < 5 && big16(p + 4) < 0x800 && (p[0] == 1 || p[6] < 3);
 }
 
 /* All tests of a trade at once: they nearly always hold. */
-INLINE int good_trade(Bytes p, uint32_t time, uint32_t least, uint32_t until) {
-    struct range range = range_of(p[7]);
+INLINE int good_trade(Bytes p, const struct range *ranges, uint32_t time, uint32_t least, uint32_t until) {
+    struct range range = range_of(ranges, p[7]);
     uint64_t tail = big64(p + 6);
     return !((time < least) | (until && time >= until) | !priced(range, (uint32_t)(tail >> 16)) | ((uint32_t)(tail & 0xFFFF) - 1 >= 10000));
 }
 
 /* An offer in range and a bid not above it put both in range. */
-INLINE int good_quote(Bytes p, uint32_t time, uint32_t least, uint32_t until) {
-    struct range range = range_of(p[7]);
+INLINE int good_quote(Bytes p, const struct range *ranges, uint32_t time, uint32_t least, uint32_t until) {
+    struct range range = range_of(ranges, p[7]);
     uint64_t both = big64(p + 9);
     uint32_t bid = (uint32_t)(both >> 32) - range.low, offer = (uint32_t)both - range.low;
     if (UNLIKELY(time < least || (until && time >= until))) return 0;
-    if (UNLIKELY(p[8] != 3 || offer >= range.count || bid > offer)) return good_with_a_side_absent(p);
+    if (UNLIKELY(p[8] != 3 || offer >= range.count || bid > offer)) return good_with_a_side_absent(p, ranges);
     return 1;
 }
 
 /* What a field's head earns before its values are looked at: 2, 3, 4 or 0. */
 static unsigned shape(Bytes p, size_t left, size_t *bytes) {
-    static const uint8_t LENGTHS[6] = {0, 3, 5, 11, 14, 4};
+    static const uint8_t LENGTHS[7] = {0, 3, 5, 11, 14, 4, 4};
     if (left < 3) return 2;
-    if (p[0] - 1u >= 5) return 3;
+    if (p[0] - 1u >= 6) return 3;
     if (big16(p + 1) != LENGTHS[p[0]]) return 4;
     *bytes = 3u + LENGTHS[p[0]];
     return left < *bytes ? 2 : 0;
@@ -93,12 +100,14 @@ static unsigned quote_fault(Bytes p, struct range range) {
     return sides == 3 && (int32_t)bid > (int32_t)offer ? 11 : 0;
 }
 
-/* What the values of a whole field earn, its time being at least so much: 6 to 11 or 0. */
-static unsigned fault(Bytes p, uint32_t least) {
-    if (p[0] == 1) return good_header(p) ? 0 : 6;
+/* What the values of a whole field earn, its time being at least so much and its instrument one that has a range here: 6 to 11, 18 or 0. */
+static unsigned fault(Bytes p, const struct range *ranges, uint32_t least) {
+    if (p[0] == 1 || p[0] == 6) return good_header(p) ? 0 : 6;
     if (p[0] == 5) return 0;
-    struct range range = RANGES[p[0] == 2 ? p[3] : p[7]];
+    uint8_t instrument = p[p[0] == 2 ? 3 : 7];
+    struct range range = RANGES[0][instrument];
     if (!range.count) return 7;
+    if (!ranges[instrument].count) return 18;
     if (p[0] == 2) return priced(range, big32(p + 4)) ? 0 : 9;
     if (big32(p + 3) >= DAY || big32(p + 3) < least) return 8;
     if (p[0] == 4) return quote_fault(p, range);
@@ -106,15 +115,17 @@ static unsigned fault(Bytes p, uint32_t least) {
     return big16(p + 12) - 1 < 10000 ? 0 : 10;
 }
 
-/* How far a sheet is good: the place, the fields before it, the latest close's instrument and record's time. */
+/* How far a sheet is good: the place, the ranges by its header, the fields before it, the latest close's instrument and record's time. */
 struct good {
     Bytes p;
+    const struct range *ranges;
     uint32_t fields, time;
     int close, records;
 };
 
 static int in_place(Bytes p, const struct good *good) {
-    if (!good->fields || p[0] == 1) return !good->fields && p[0] == 1;
+    int header = p[0] == 1 || p[0] == 6;
+    if (!good->fields || header) return !good->fields && header;
     return p[0] != 2 || (!good->records && p[3] > good->close);
 }
 
@@ -125,7 +136,7 @@ static __attribute__((noinline, cold)) unsigned refusal(Bytes sheet, size_t len,
         size_t bytes;
         unsigned number = shape(good.p, (size_t)(end - good.p), &bytes);
         if (!number && !in_place(good.p, &good)) number = 5;
-        if (!number) number = fault(good.p, good.time);
+        if (!number) number = fault(good.p, good.ranges, good.time);
         if (!number && good.p[0] == 5 && big32(good.p + 3) != good.fields) number = 12;
         *at = (size_t)(good.p - sheet);
         if (number) return number;
@@ -133,6 +144,7 @@ static __attribute__((noinline, cold)) unsigned refusal(Bytes sheet, size_t len,
             *at += END_BYTES;
             return *at == len ? 0 : 5;
         }
+        if (good.p[0] == 6) good.ranges = RANGES[good.p[6]];
         if (good.p[0] == 2) good.close = good.p[3];
         if (good.p[0] == 3 || good.p[0] == 4) good.time = big32(good.p + 3), good.records = 1;
         good.p += bytes;
@@ -149,15 +161,18 @@ struct standing {
 
 /* The header and the closes as far as they are good; where wanted, the closes are kept as references. */
 INLINE struct good opening(Bytes sheet, size_t len, struct standing *kept) {
-    struct good good = {sheet, 0, 0, -1, 0};
+    struct good good = {sheet, RANGES[0], 0, 0, -1, 0};
     Bytes end = sheet + len;
-    if (UNLIKELY(len < HEADER_BYTES + END_BYTES || head(sheet) != HEADER || !good_header(sheet))) return good;
-    good.p += HEADER_BYTES;
+    if (UNLIKELY(len < HEADER_BYTES + END_BYTES)) return good;
+    int is_long = head(sheet) == LONG_HEADER;
+    if (UNLIKELY((!is_long && head(sheet) != HEADER) || !good_header(sheet))) return good;
+    if (is_long) good.ranges = RANGES[sheet[6]];
+    good.p += is_long ? LONG_HEADER_BYTES : HEADER_BYTES;
     good.fields = 1;
     while (end - good.p >= CLOSE_BYTES + END_BYTES && head(good.p) == CLOSE) {
         int instrument = good.p[3];
         uint32_t price = big32(good.p + 4);
-        if (UNLIKELY(instrument <= good.close || !priced(RANGES[instrument], price))) break;
+        if (UNLIKELY(instrument <= good.close || !priced(good.ranges[instrument], price))) break;
         if (kept) kept->references[instrument] = (int32_t)price;
         good.close = instrument;
         good.p += CLOSE_BYTES;
@@ -173,12 +188,13 @@ INLINE struct good opening(Bytes sheet, size_t len, struct standing *kept) {
 INLINE struct good records(struct good good, Bytes end, uint32_t until, struct standing *kept, struct total *totals) {
     if (end - good.p < TRADE_BYTES + END_BYTES) return good;
     Bytes p = good.p, first = p, last = end - (TRADE_BYTES + END_BYTES);
+    const struct range *ranges = good.ranges;
     uint32_t time = good.time, quotes = 0;
     while (p <= last) {
         uint32_t kind = head(p);
         if (kind == TRADE) {
             uint32_t now = big32(p + 3);
-            if (UNLIKELY(!good_trade(p, now, time, until))) break;
+            if (UNLIKELY(!good_trade(p, ranges, now, time, until))) break;
             int32_t price = (int32_t)big32(p + 8);
             if (kept) kept->references[p[7]] = price;
             if (totals) {
@@ -191,7 +207,7 @@ INLINE struct good records(struct good good, Bytes end, uint32_t until, struct s
         } else {
             if (UNLIKELY(kind != QUOTE)) break;
             uint32_t now = big32(p + 3);
-            if (UNLIKELY(!good_quote(p, now, time, until))) break;
+            if (UNLIKELY(!good_quote(p, ranges, now, time, until))) break;
             if (kept) kept->quotes[p[7]] = p;
             time = now;
             p += QUOTE_BYTES;
@@ -227,20 +243,20 @@ INLINE void put(int64_t *values, int64_t tag, int64_t a, int64_t b, int64_t c, i
 static __attribute__((noinline, cold)) unsigned read_refusal(Bytes p, size_t left) {
     size_t bytes;
     unsigned number = shape(p, left, &bytes);
-    return number ? number : fault(p, 0);
+    return number ? number : fault(p, RANGES[0], 0);
 }
 
 uint8_t limit_read(const uint8_t *sheet, size_t len, size_t at, int64_t *values, size_t *next) {
     size_t left = at < len ? len - at : 0, bytes;
     Bytes p = sheet + (left ? at : 0);
     uint32_t kind = left >= HEADER_BYTES ? head(p) : 0;
-    if (kind == TRADE && left >= TRADE_BYTES && good_trade(p, big32(p + 3), 0, DAY)) {
+    if (kind == TRADE && left >= TRADE_BYTES && good_trade(p, RANGES[0], big32(p + 3), 0, DAY)) {
         bytes = TRADE_BYTES;
         put(values, 3, big32(p + 3), p[7], (int32_t)big32(p + 8), big16(p + 12), 0);
-    } else if (kind == QUOTE && left >= QUOTE_BYTES && good_quote(p, big32(p + 3), 0, DAY)) {
+    } else if (kind == QUOTE && left >= QUOTE_BYTES && good_quote(p, RANGES[0], big32(p + 3), 0, DAY)) {
         bytes = QUOTE_BYTES;
         put(values, 4, big32(p + 3), p[7], p[8], (int32_t)big32(p + 9), (int32_t)big32(p + 13));
-    } else if (kind == CLOSE && left >= CLOSE_BYTES && priced(RANGES[p[3]], big32(p + 4))) {
+    } else if (kind == CLOSE && left >= CLOSE_BYTES && priced(RANGES[0][p[3]], big32(p + 4))) {
         bytes = CLOSE_BYTES;
         put(values, 2, p[3], (int32_t)big32(p + 4), 0, 0, 0);
     } else if (kind == END && left >= END_BYTES) {
@@ -249,6 +265,9 @@ uint8_t limit_read(const uint8_t *sheet, size_t len, size_t at, int64_t *values,
     } else if (kind == HEADER && good_header(p)) {
         bytes = HEADER_BYTES;
         put(values, 1, p[3], big16(p + 4), 0, 0, 0);
+    } else if (kind == LONG_HEADER && left >= LONG_HEADER_BYTES && good_header(p)) {
+        bytes = LONG_HEADER_BYTES;
+        put(values, 6, p[3], big16(p + 4), p[6], 0, 0);
     } else {
         return (uint8_t)read_refusal(p, left);
     }

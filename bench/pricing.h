@@ -58,6 +58,21 @@ static const uint8_t ASKED[CONTRACTS] = {0, 1, 3, 5, 7, 11};
 enum { NOTHING = CONTRACTS };
 static const uint8_t OTHER[INSTRUMENTS] = {NOTHING, 0, 0, 1, 2, 1, 0, 2, 1, 0, 3, 4};
 
+/* By a long header's third value: the instruments that may have no field, a bit each, and the contract that has the answer of 3M. */
+static const struct third {
+    uint16_t barred;
+    uint8_t named;
+} THIRDS[3] = {
+    {0, NOTHING},
+    {1 << 1 | 1 << 2 | 1 << 6 | 1 << 9, 1},
+    {1 << 4 | 1 << 5 | 1 << 6 | 1 << 10, 3},
+};
+
+/* What a sheet's header says of 3M, once it is judged. A short header says the same as 0. */
+INLINE struct third third(Bytes sheet) {
+    return THIRDS[sheet[0] == 6 ? sheet[6] : 0];
+}
+
 /* The spreads that are taken from their other leg: those of M4. A mark turns a spread round. */
 enum { TAKEN = 1 << 4 | 1 << 5 | 1 << 6 };
 
@@ -95,13 +110,21 @@ INLINE int contract(int k, int64_t step, const struct total *totals, uint32_t le
     return method <= 2;
 }
 
+/* The row of 3M once more, for the contract that is 3M. */
+INLINE void take(int k, int64_t *closes, uint64_t *rows) {
+    memcpy(rows + 3 * k, rows, 3 * sizeof *rows);
+    closes[k] = closes[0];
+}
+
 /* The six rows of a judged sheet. */
 INLINE void price(Bytes sheet, const struct total *totals, Indicated *indicated, void *day, uint64_t *rows) {
     int64_t closes[CONTRACTS + 1];
     uint32_t less = big16(sheet + 4) << 1 ^ TAKEN;
     closes[NOTHING] = 0;
-    int k = 1, open = contract(0, METALS[sheet[3]].step, totals, less, indicated, day, closes, rows);
-    for (; k < CONTRACTS && open; k++) open = contract(k, 1, totals, less, indicated, day, closes, rows + 3 * k);
+    int k = 1, named = third(sheet).named, open = contract(0, METALS[sheet[3]].step, totals, less, indicated, day, closes, rows);
+    for (; k < CONTRACTS && open; k++)
+        if (k == named) take(k, closes, rows);
+        else open = contract(k, 1, totals, less, indicated, day, closes, rows + 3 * k);
     for (; k < CONTRACTS; k++) rows[3 * k] = 15, rows[3 * k + 1] = rows[3 * k + 2] = 0;
 }
 

@@ -30,7 +30,14 @@ static void read_all(void) {
 }
 static void to_tape(void) { bliskoru_sheet_to_tape(sheet, len, tape, sizeof tape, &tape_len, &place); }
 static void to_sheet(void) { bliskoru_tape_to_sheet(tape, tape_len, again, sizeof again, &again_len, &place); }
-static void write_one(void) { bliskoru_write_quote(out, sizeof out, 0, 58500000, 0, 3, 1800000, 1800010, &place); }
+static void write_each(void) {
+    bliskoru_write_header(out, sizeof out, 0, 1, 0, &place);
+    bliskoru_write_long_header(out, sizeof out, 0, 1, 0, 1, &place);
+    bliskoru_write_previous_close(out, sizeof out, 0, 11, -250, &place);
+    bliskoru_write_trade(out, sizeof out, 0, 58500000, 0, 1800040, 3, &place);
+    bliskoru_write_quote(out, sizeof out, 0, 58500000, 0, 3, 1800000, 1800010, &place);
+    bliskoru_write_end(out, sizeof out, 0, 10, &place);
+}
 
 static size_t depth(void (*run)(void)) {
     if (RUNNING_ON_VALGRIND) {
@@ -65,7 +72,7 @@ int main(int count, char **names) {
         char line[300];
         int n = snprintf(line, sizeof line, "%s, %zu bytes\n", names[i], len);
         if (write(1, line, n) != n) return 1;
-        say("list", list), say("judge", judge), say("answers", price), say("read", read_all), say("write", write_one);
+        say("list", list), say("judge", judge), say("answers", price), say("read", read_all), say("write", write_each);
         say("to-tape", to_tape), say("to-sheet", to_sheet);
     }
     return 0;

@@ -4,7 +4,7 @@ import re
 import sys
 
 SIZES = [130, 65536, 1048576]
-SHEETS = {'trades': 'mostly trades', 'quotes': 'mostly quotes', 'twap': 'all by TWAP', 'vwap': 'all by VWAP'}
+SHEETS = {'trades': 'mostly trades', 'quotes': 'mostly quotes', 'twap': 'all by TWAP', 'vwap': 'all by VWAP', 'third': '3M is M3'}
 SIDES = ['library', 'independent', 'plain', 'limit']
 WORKS = ['judge', 'read', 'list', 'answers']
 ON_TEXTS = ['to-sheet', 'to-tape']

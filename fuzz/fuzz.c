@@ -32,6 +32,7 @@ static uint8_t write_back(const int64_t v[6], uint8_t *out, size_t room, size_t 
     case 2: return bliskoru_write_previous_close(out, room, 0, v[1], v[2], next);
     case 3: return bliskoru_write_trade(out, room, 0, v[1], v[2], v[3], v[4], next);
     case 4: return bliskoru_write_quote(out, room, 0, v[1], v[2], v[3], v[4], v[5], next);
+    case 6: return bliskoru_write_long_header(out, room, 0, v[1], v[2], v[3], next);
     default: return bliskoru_write_end(out, room, 0, v[1], next);
     }
 }
@@ -141,12 +142,12 @@ size_t LLVMFuzzerMutate(uint8_t *bytes, size_t len, size_t most);
 /* libFuzzer's own change; then, half of the time, a sheet's end field is put right, so that those with more or fewer fields are accepted too. A
    text starts with a letter or a digit and is left as it is. */
 size_t LLVMFuzzerCustomMutator(uint8_t *bytes, size_t len, size_t most, unsigned seed) {
-    static const size_t size[6] = {0, 6, 8, 14, 17, 7};
+    static const size_t size[7] = {0, 6, 8, 14, 17, 0, 7}; /* by tag, and none for the end */
     len = LLVMFuzzerMutate(bytes, len, most);
     if (seed % 2 || (len && bytes[0] >= '0')) return len;
     size_t at = 0;
     uint32_t count = 0;
-    while (at < len && bytes[at] >= 1 && bytes[at] <= 4 && at + size[bytes[at]] <= len) at += size[bytes[at]], count++;
+    while (at < len && bytes[at] <= 6 && size[bytes[at]] && at + size[bytes[at]] <= len) at += size[bytes[at]], count++;
     if (at + 7 > most) return len;
     size_t next;
     bliskoru_write_end(bytes, most, at, count, &next);

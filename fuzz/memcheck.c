@@ -150,6 +150,7 @@ static uint8_t write_one(int kind, uint8_t *buffer, size_t len, size_t at, int g
     case 1: return bliskoru_write_previous_close(buffer, len, at, 11, good ? -9999999 : -10000000, next);
     case 2: return bliskoru_write_trade(buffer, len, at, 86399999, 0, 99999999, good ? 10000 : 10001, next);
     case 3: return bliskoru_write_quote(buffer, len, at, 0, 1, 3, good ? 0 : 1, 0, next);
+    case 4: return bliskoru_write_long_header(buffer, len, at, 1, 0, good ? 2 : 3, next);
     default: return bliskoru_write_end(buffer, len, at, good ? UINT32_MAX : 0, next);
     }
 }
@@ -170,7 +171,7 @@ static void write_at(int kind, size_t len, size_t at, int good) {
 }
 
 static void writers(void) {
-    for (int kind = 0; kind < 5; kind++)
+    for (int kind = 0; kind < 6; kind++)
         for (int good = 0; good < 2; good++)
             for (size_t len = 0; len <= 20; len++) {
                 for (size_t at = 0; at <= len + 1; at++) write_at(kind, len, at, good);
@@ -189,9 +190,9 @@ static void longest(void) {
     free(sheet);
 }
 
-/* A text of the longest sheet that has trades alone, 74,897 of them, and one with a line more. */
+/* A text of the longest sheet that has trades alone behind a long header, 74,897 of them, and one with a line more. */
 static void longest_text(void) {
-    static const char metal[] = "METAL,Nickel,0\n", trade[] = "58500000,3M,TRADE,18000.00,10000\n";
+    static const char metal[] = "METAL,Nickel,0,1\n", trade[] = "58500000,3M,TRADE,18000.00,10000\n";
     enum { TRADES = 74897, METAL = sizeof metal - 1, TRADE = sizeof trade - 1 };
     uint8_t *tape = block(METAL + TRADE * (TRADES + 1)), *at = tape + METAL;
     memcpy(tape, metal, METAL);
@@ -200,11 +201,11 @@ static void longest_text(void) {
     free(tape);
 }
 
-/* A sheet with all contracts by VWAP, which is quick to price. */
+/* A sheet with a long header and all contracts by VWAP, which is quick to price. Flipped to 1 or 2 its third value bars a trade. */
 static size_t quick_sheet(uint8_t *sheet, size_t room) {
     static const uint8_t spreads[5] = {1, 3, 5, 7, 11};
     size_t at = 0;
-    bliskoru_write_header(sheet, room, at, 1, 0, &at);
+    bliskoru_write_long_header(sheet, room, at, 1, 0, 0, &at);
     for (int i = 0; i < 5; i++) bliskoru_write_trade(sheet, room, at, 58200000, spreads[i], -300, 6, &at);
     bliskoru_write_trade(sheet, room, at, 58500000, 0, 1800040, 6, &at);
     bliskoru_write_end(sheet, room, at, 7, &at);

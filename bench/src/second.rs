@@ -15,7 +15,10 @@ pub fn judge(sheet: &[u8]) -> (u8, usize) {
 
 fn values_of(field: Field) -> Values {
     match field {
-        Field::Header(f) => [1, f.metal.into(), f.marks.into(), 0, 0, 0],
+        Field::Header(f) => match f.third {
+            None => [1, f.metal.into(), f.marks.into(), 0, 0, 0],
+            Some(third) => [6, f.metal.into(), f.marks.into(), third.into(), 0, 0],
+        },
         Field::PreviousClose(f) => [2, f.instrument.into(), f.price.into(), 0, 0, 0],
         Field::Trade(f) => {
             let instrument = f.instrument.into();

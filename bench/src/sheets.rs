@@ -1,6 +1,6 @@
 //! Accepted sheets of an exact number of bytes, each of one kind.
 
-use independent::draft::{close, ended_sheet, header, quote, record_field, trade};
+use independent::draft::{close, ended_sheet, header, long_header, quote, record_field, trade};
 use independent::field::{Field, Quote, Trade};
 use independent::random::Random;
 use independent::sheet::Record;
@@ -11,6 +11,10 @@ const NICKEL: &[u8] = include_bytes!("../../examples/nickel.sheet");
 
 /// The instruments that a TWAP asks for, one for each contract.
 const ASKED: [u8; 6] = [0, 1, 3, 5, 7, 11];
+
+/// All instruments, and those that are left where 3M is M3.
+const ALL: [u8; 12] = [0, 1, 2, 3, 4, 5, 6, 7, 8, 9, 10, 11];
+const LEFT: [u8; 8] = [0, 3, 4, 5, 7, 8, 10, 11];
 
 pub const SIZES: [usize; 3] = [130, 65_536, 1_048_576];
 
@@ -24,9 +28,11 @@ pub enum Kind {
     Twap,
     /// Half trades, half quotes, all inside the windows.
     Vwap,
+    /// The same behind a long header by which 3M is M3, on the instruments that are left.
+    Third,
 }
 
-pub const KINDS: [Kind; 4] = [Kind::Trades, Kind::Quotes, Kind::Twap, Kind::Vwap];
+pub const KINDS: [Kind; 5] = [Kind::Trades, Kind::Quotes, Kind::Twap, Kind::Vwap, Kind::Third];
 
 impl Kind {
     pub fn name(self) -> &'static str {
@@ -35,6 +41,7 @@ impl Kind {
             Kind::Quotes => "quotes",
             Kind::Twap => "twap",
             Kind::Vwap => "vwap",
+            Kind::Third => "third",
         }
     }
 
@@ -42,12 +49,26 @@ impl Kind {
         KINDS.into_iter().find(|kind| kind.name() == name)
     }
 
+    fn header(self) -> Field {
+        match self {
+            Kind::Third => long_header(1, 0, 1),
+            _ => header(1, 0),
+        }
+    }
+
+    fn instruments(self) -> &'static [u8] {
+        match self {
+            Kind::Third => &LEFT,
+            _ => &ALL,
+        }
+    }
+
     /// How many of 20 bytes of records are quotes.
     fn quotes_of_20(self) -> usize {
         match self {
             Kind::Trades => 1,
             Kind::Quotes => 19,
-            Kind::Twap | Kind::Vwap => 10,
+            Kind::Twap | Kind::Vwap | Kind::Third => 10,
         }
     }
 }
@@ -72,7 +93,7 @@ impl Maker {
     }
 
     fn instrument(&mut self) -> u8 {
-        self.random.below(12) as u8
+        self.random.pick(self.kind.instruments())
     }
 
     fn inside(&mut self, instrument: u8) -> u32 {
@@ -91,7 +112,7 @@ impl Maker {
         let time = match self.kind {
             Kind::Trades | Kind::Quotes => self.around(),
             Kind::Twap => self.random.time(start - WINDOW, start - 1),
-            Kind::Vwap => self.inside(instrument),
+            Kind::Vwap | Kind::Third => self.inside(instrument),
         };
         let price = self.price(instrument);
         let lots = self.random.between(1, 10) as u16;
@@ -102,20 +123,21 @@ impl Maker {
         let instrument = self.instrument();
         let time = match self.kind {
             Kind::Trades | Kind::Quotes => self.around(),
-            Kind::Twap | Kind::Vwap => self.inside(instrument),
+            Kind::Twap | Kind::Vwap | Kind::Third => self.inside(instrument),
         };
         let bid = self.price(instrument);
         let offer = bid + self.random.price(0, 50);
         Record::Quote(Quote { time, instrument, sides: 3, bid, offer })
     }
 
-    /// A header, twelve closes, records in the order of their times, an end.
+    /// A header, a close of each instrument, records in the order of their times, an end.
     fn sheet(mut self, bytes: usize) -> Vec<u8> {
-        let mut fields = vec![header(1, 0)];
-        for instrument in 0..12 {
+        let mut fields = vec![self.kind.header()];
+        for &instrument in self.kind.instruments() {
             fields.push(close(instrument, self.price(instrument)));
         }
-        let (trades, quotes) = filling(self.kind, bytes - 13 - 12 * 8);
+        let other = ended_sheet(&fields).len();
+        let (trades, quotes) = filling(self.kind, bytes - other);
         let mut records: Vec<Record> = (0..trades).map(|_| self.trade()).collect();
         records.extend((0..quotes).map(|_| self.quote()));
         self.random.shuffle(&mut records);
@@ -132,7 +154,7 @@ fn short(kind: Kind) -> Vec<u8> {
     let trade_on = |i: u8, lots: u16| trade(at(i), i, price(i), lots);
     let quote_on = |i: u8| quote(at(i) + 60_000, i, 3, price(i) + 10, price(i) + 20);
     let close_on = |i: u8| close(i, price(i));
-    let mut fields: Vec<Field> = vec![header(1, 0)];
+    let mut fields = vec![kind.header()];
     match kind {
         Kind::Trades => return NICKEL.to_vec(),
         Kind::Quotes => {
@@ -148,6 +170,11 @@ fn short(kind: Kind) -> Vec<u8> {
             fields.extend([7, 11].map(close_on));
             fields.extend(ASKED.into_iter().skip(1).map(|i| trade_on(i, 6)));
             fields.extend([quote_on(7), trade_on(0, 6)]);
+        }
+        Kind::Third => {
+            fields.extend([3, 5, 7, 8, 11].map(close_on));
+            fields.extend([3, 5].map(|i| trade_on(i, 6)));
+            fields.extend([quote_on(7), quote_on(11), trade_on(0, 6)]);
         }
     }
     ended_sheet(&fields)

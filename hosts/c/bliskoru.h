@@ -32,10 +32,10 @@ enum bliskoru_number {
     BLISKORU_YES = 0,
     BLISKORU_SHEET_TOO_LONG = 1,      /* a sheet of more than 1,048,576 bytes, or a tape of which such a one would be made */
     BLISKORU_BYTES_MISSING = 2,       /* bytes of a field are missing, or the end field is */
-    BLISKORU_TAG = 3,                 /* no tag 1 to 5 */
+    BLISKORU_TAG = 3,                 /* no tag 1 to 6 */
     BLISKORU_LENGTH = 4,              /* another length than the tag has */
     BLISKORU_OUT_OF_PLACE = 5,        /* a field or line out of its place, bytes behind the end field, or a tape without a line */
-    BLISKORU_METAL_OR_MARKS = 6,      /* no metal 1 to 5, or a mark that no spread has */
+    BLISKORU_METAL_OR_MARKS = 6,      /* no metal 1 to 5, a mark that no spread has, or a third value above 2 */
     BLISKORU_INSTRUMENT = 7,          /* instrument above 11 */
     BLISKORU_TIME = 8,                /* time above 86,399,999, or (in a whole sheet) one that falls */
     BLISKORU_PRICE = 9,               /* price out of range: 1 to 99,999,999 outright, -9,999,999 to 9,999,999 for a spread */
@@ -46,7 +46,8 @@ enum bliskoru_number {
     BLISKORU_CLOSE_OUT_OF_RANGE = 14, /* contract: no close of 1 to 99,999,999 cents after rounding */
     BLISKORU_NOT_REACHED = 15,        /* contract: one before it was refused */
     BLISKORU_DOES_NOT_FIT = 16,       /* writer: no room for the field at that place; tape: no room for the sheet or the text */
-    BLISKORU_LINE = 17                /* tape: a line that is malformed, or names what there is not */
+    BLISKORU_LINE = 17,               /* tape: a line that is malformed, or names what there is not */
+    BLISKORU_BARRED = 18              /* a field on an instrument that the header's third value bars, in a whole sheet or a tape */
 };
 
 /* How a contract was priced: the first number of its row. A refused contract has 13, 14 or 15 there. */
@@ -67,11 +68,19 @@ enum bliskoru_contract {
 
 /* A field's tag: the first of its six numbers. */
 enum bliskoru_tag {
-    BLISKORU_HEADER = 1,
+    BLISKORU_HEADER = 1, /* the short one, without a third value */
     BLISKORU_PREVIOUS_CLOSE = 2,
     BLISKORU_TRADE = 3,
     BLISKORU_QUOTE = 4,
-    BLISKORU_END = 5
+    BLISKORU_END = 5,
+    BLISKORU_LONG_HEADER = 6
+};
+
+/* The third value of a long header: which contract has the date of 3M that day. A short header says the same as 0. */
+enum bliskoru_third {
+    BLISKORU_3M_IS_NO_MONTH = 0, /* every instrument may have fields */
+    BLISKORU_3M_IS_M3 = 1,       /* M3 has the answer of 3M; fields on 1, 2, 6 and 9 are refused with 18 */
+    BLISKORU_3M_IS_M4 = 2        /* M4 has the answer of 3M; fields on 4, 5, 6 and 10 are refused with 18 */
 };
 
 /* Bits of a quote's sides. */
@@ -80,13 +89,16 @@ enum bliskoru_side {
     BLISKORU_OFFER = 2
 };
 
+/* It is raised whenever a function, a tag or a number is added: 1 has the sheet, 2 the text tape too, 3 the long header too. */
+#define BLISKORU_VERSION 3
+
 #define BLISKORU_LONGEST_SHEET 1048576  /* bytes; a longer sheet is refused with 1 */
 #define BLISKORU_LONGEST_TAPE 3145728   /* bytes; no accepted sheet has a longer text */
 #define BLISKORU_LONGEST_LISTED 65536   /* bytes; the list of a longer sheet is the line `too long` */
 #define BLISKORU_LIST_ROOM 512          /* bytes; no list is longer */
 #define BLISKORU_ANSWERS 18             /* six rows of three numbers */
 #define BLISKORU_VALUES 6               /* a field's tag and values */
-#define BLISKORU_LONGEST_FIELD 17       /* bytes of a quote; header 6, previous close 8, trade 14, end 7 */
+#define BLISKORU_LONGEST_FIELD 17       /* bytes of a quote; header 6, long header 7, previous close 8, trade 14, end 7 */
 
 /*
  * The closing list of a sheet, as text: the metal's name and six lines, or `refused`, number and byte, or `too long` for a sheet of more than
@@ -103,7 +115,8 @@ size_t bliskoru_list(const uint8_t *sheet, size_t sheet_len, uint8_t *out, size_
  *   sheet, sheet_len  the sheet
  *   at                the refusal's byte
  * Yes: 0. *at stays as it was.
- * No:  1 to 12. *at is the byte at which the field starts that earned it (1: 0; missing end: sheet_len; bytes after the end: the first of them).
+ * No:  1 to 12 or 18. *at is the byte at which the field starts that earned it (1: 0; missing end: sheet_len; bytes after the end: the first of
+ *      them).
  */
 uint8_t bliskoru_judge(const uint8_t *sheet, size_t sheet_len, size_t *at);
 
@@ -113,10 +126,11 @@ uint8_t bliskoru_judge(const uint8_t *sheet, size_t sheet_len, size_t *at);
  *   answers           BLISKORU_ANSWERS numbers: for 3M, M3, M2, M4, M1 and Cash in turn
  *                       1 VWAP, 2 TWAP, or the contract's refusal 13 to 15;
  *                       the close in cents, 1 to 99,999,999, or 0 where it is refused;
- *                       the lots, the sum over its VWAP instruments in the window, 0 with 15
+ *                       the lots, the sum over its VWAP instruments in the window, 0 with 15.
+ *                     M3 or M4 has the three numbers of 3M where the header's third value names it, and 15 where one before it is refused
  *   at                the refusal's byte
  * Yes: 0, also where contracts are refused. All of answers is written, and *at stays as it was.
- * No:  1 to 12, as bliskoru_judge says it. *at is the byte, and answers stays as it was.
+ * No:  1 to 12 or 18, as bliskoru_judge says it. *at is the byte, and answers stays as it was.
  */
 uint8_t bliskoru_answers(const uint8_t *sheet, size_t sheet_len, uint64_t *answers, size_t *at);
 
@@ -126,6 +140,7 @@ uint8_t bliskoru_answers(const uint8_t *sheet, size_t sheet_len, uint64_t *answe
  *   at                the place at which it starts; any number
  *   values            BLISKORU_VALUES numbers: the tag, then the values in the order of its body, then zeros
  *                       header          1, metal, marks, 0, 0, 0
+ *                       long header     6, metal, marks, third, 0, 0
  *                       previous close  2, instrument, cents, 0, 0, 0
  *                       trade           3, time, instrument, cents, lots, 0
  *                       quote           4, time, instrument, sides, bid, offer
@@ -137,17 +152,20 @@ uint8_t bliskoru_answers(const uint8_t *sheet, size_t sheet_len, uint64_t *answe
 uint8_t bliskoru_read(const uint8_t *sheet, size_t sheet_len, size_t at, int64_t *values, size_t *next);
 
 /*
- * Each of the five writes one field.
+ * Each of the six writes one field.
  *   buffer, buffer_len  where it goes
  *   at                  the place at which it starts; any number
  *   next                the place behind the field
  * Yes: 0. The field's bytes stand at `at`, the others of buffer stay as they were, and *next is the place behind the field.
  * No:  the number that the values earn, or 16 where they earn none and the field doesn't fit. buffer and *next stay as they were.
- * What only a whole sheet can get wrong is not judged here: the order of fields, times that fall, the end's count.
+ * What only a whole sheet can get wrong is not judged here: the order of fields, barred instruments, times that fall, the end's count.
  */
 
 /* 6 bytes; 6 or 16. metal: 1 Nickel, 2 Aluminium, 3 Zinc, 4 Copper, 5 Lead. marks: bit i-1 where spread i is quoted reversed. */
 uint8_t bliskoru_write_header(uint8_t *buffer, size_t buffer_len, size_t at, uint8_t metal, uint16_t marks, size_t *next);
+
+/* 7 bytes; 6 or 16. The header with a third value, of enum bliskoru_third; metal and marks as in the short one. */
+uint8_t bliskoru_write_long_header(uint8_t *buffer, size_t buffer_len, size_t at, uint8_t metal, uint16_t marks, uint8_t third, size_t *next);
 
 /* 8 bytes; 7, 9 or 16. instrument: 0 is 3M outright, 1 to 11 are the spreads. cents: the price. */
 uint8_t bliskoru_write_previous_close(uint8_t *buffer, size_t buffer_len, size_t at, uint8_t instrument, int32_t cents, size_t *next);
@@ -171,7 +189,7 @@ uint8_t bliskoru_write_end(uint8_t *buffer, size_t buffer_len, size_t at, uint32
  *   at                the refusal's line
  * Yes: 0. The sheet stands at the start of sheet, with its right end field, and *length is its length. The bytes of sheet behind it and *at stay
  *      as they were.
- * No:  5, 6, 8 to 11 or 17. *at is the number of the first bad line, counted from 1. A tape without a line: 5 at line 1.
+ * No:  5, 6, 8 to 11, 17 or 18. *at is the number of the first bad line, counted from 1. A tape without a line: 5 at line 1.
  *      Where no line is bad, 1 for a sheet of more than 1,048,576 bytes, then 16 for one of more than sheet_len; *at is 0.
  *      sheet and *length stay as they were.
  */
@@ -185,7 +203,7 @@ uint8_t bliskoru_tape_to_sheet(const uint8_t *tape, size_t tape_len, uint8_t *sh
  *   at                the refusal's byte
  * Yes: 0. The text stands at the start of tape, with a line feed after every line and no zero byte behind them, and *length is its length. The
  *      bytes of tape behind it and *at stay as they were.
- * No:  1 to 12, as bliskoru_judge says it; *at is the byte. Then 16 for a text of more than tape_len bytes; *at is 0.
+ * No:  1 to 12 or 18, as bliskoru_judge says it; *at is the byte. Then 16 for a text of more than tape_len bytes; *at is 0.
  *      tape and *length stay as they were.
  */
 uint8_t bliskoru_sheet_to_tape(const uint8_t *sheet, size_t sheet_len, uint8_t *tape, size_t tape_len, size_t *length, size_t *at);

@@ -422,6 +422,8 @@ static uint8_t written(const struct row *row, uint8_t *buffer, size_t length, si
     switch (row->numbers[1]) {
     case BLISKORU_HEADER:
         return bliskoru_write_header(buffer, length, at, (uint8_t)v[0], (uint16_t)v[1], next);
+    case BLISKORU_LONG_HEADER:
+        return bliskoru_write_long_header(buffer, length, at, (uint8_t)v[0], (uint16_t)v[1], (uint8_t)v[2], next);
     case BLISKORU_PREVIOUS_CLOSE:
         return bliskoru_write_previous_close(buffer, length, at, (uint8_t)v[0], (int32_t)v[1], next);
     case BLISKORU_TRADE:
@@ -497,15 +499,24 @@ static uint8_t *put(uint8_t *at, uint64_t number, int bytes)
     return at;
 }
 
+/* In the place of a third value: the header is a short one. */
+enum { SHORT = -1 };
+
+/* A Nickel header without marks, a long one where there is a third value. */
+static uint8_t *put_header(uint8_t *at, int third)
+{
+    at = put(put(put(put(at, third == SHORT ? 1 : 6, 1), third == SHORT ? 3 : 4, 2), 1, 1), 0, 2);
+    return third == SHORT ? at : put(at, (uint64_t)third, 1);
+}
+
 /*
  * A Nickel sheet of trades of 10,000 lots of 3M at 1,800,000 in the first millisecond of its window, and quotes without sides: 6 bytes for the
- * header, 14 a trade, 17 a quote, 7 for the end.
+ * header or 7 for a long one, 14 a trade, 17 a quote, 7 for the end.
  */
-static uint8_t *nickel_of(size_t trades, size_t quotes, size_t *length)
+static uint8_t *nickel_of(int third, size_t trades, size_t quotes, size_t *length)
 {
-    uint8_t *sheet = memory(6 + 14 * trades + 17 * quotes + 7 + 1), *at = sheet;
+    uint8_t *sheet = memory(7 + 14 * trades + 17 * quotes + 7 + 1), *at = put_header(sheet, third);
     size_t k;
-    at = put(put(put(put(at, 1, 1), 3, 2), 1, 1), 0, 2);
     for (k = 0; k < trades; k++)
         at = put(put(put(put(put(put(at, 3, 1), 11, 2), 58500000, 4), 0, 1), 1800000, 4), 10000, 2);
     for (k = 0; k < quotes; k++)
@@ -522,7 +533,7 @@ static void look_at_longest(void)
     static const uint64_t answers[] = {1, 1800000, 748840000, 13, 0, 0, 15, 0, 0, 15, 0, 0, 15, 0, 0, 15, 0, 0};
     static const uint64_t end[] = {5, 74896, 0, 0, 0, 0};
     size_t length;
-    uint8_t *sheet = nickel_of(74884, 11, &length);
+    uint8_t *sheet = nickel_of(SHORT, 74884, 11, &length);
     expect(length == BLISKORU_LONGEST_SHEET, "the longest sheet's length", "longest");
     look_at_sheet(sheet, length, BLISKORU_YES, 0, answers, "longest");
     look_at_sheet(sheet, length + 1, BLISKORU_SHEET_TOO_LONG, 0, NULL, "one byte longer than the longest");
@@ -542,7 +553,7 @@ static void look_at_longest_listed(void)
     static const char list[] = "Nickel\n3M VWAP 1800000 46790000\nM3 refused 13 0\nM2 refused 15 0\nM4 refused 15 0\n"
                                "M1 refused 15 0\nCash refused 15 0\n";
     size_t length;
-    uint8_t *sheet = nickel_of(4679, 1, &length);
+    uint8_t *sheet = nickel_of(SHORT, 4679, 1, &length);
     expect(length == BLISKORU_LONGEST_LISTED, "the longest listed sheet's length", "listed");
     look_at_list(sheet, length, list, "65,536 bytes");
     look_at_list(sheet, length + 1, "too long\n", "65,537 bytes");
@@ -550,6 +561,18 @@ static void look_at_longest_listed(void)
     memset(sheet, 0, length + 1);
     look_at_list(sheet, length, "refused 3 0\n", "65,536 zero bytes");
     look_at_list(sheet, length + 1, "too long\n", "65,537 zero bytes");
+    free(sheet);
+}
+
+/* By a long header that sheet has 7 + 14 * 4,668 + 17 * 10 + 7 = 65,536 bytes. M3 is 3M. */
+static void look_at_listed_by_long_header(void)
+{
+    static const char list[] = "Nickel\n3M VWAP 1800000 46680000\nM3 VWAP 1800000 46680000\nM2 refused 13 0\nM4 refused 15 0\n"
+                               "M1 refused 15 0\nCash refused 15 0\n";
+    size_t length;
+    uint8_t *sheet = nickel_of(BLISKORU_3M_IS_M3, 4668, 10, &length);
+    expect(length == BLISKORU_LONGEST_LISTED, "the longest listed sheet's length", "listed by a long header");
+    look_at_list(sheet, length, list, "65,536 bytes by a long header");
     free(sheet);
 }
 
@@ -564,11 +587,14 @@ static uint8_t *put_lines(uint8_t *at, const char *line, size_t times)
     return at;
 }
 
-/* The text of the sheet of nickel_of, with room behind it for two lines more. */
-static uint8_t *nickel_tape_of(size_t trades, size_t quotes, size_t *length)
+/* The line of a short header, and of a long one by which 3M is M3. */
+static const char SHORT_LINE[] = "METAL,Nickel,0\n", LONG_LINE[] = "METAL,Nickel,0,1\n";
+
+/* The text of the sheet of nickel_of behind its METAL line, with room behind it for two lines more. */
+static uint8_t *nickel_tape_of(const char *metal, size_t trades, size_t quotes, size_t *length)
 {
     uint8_t *tape = memory(40 * (1 + trades + quotes + 2)), *at = tape;
-    at = put_lines(at, "METAL,Nickel,0\n", 1);
+    at = put_lines(at, metal, 1);
     at = put_lines(at, "58500000,3M,TRADE,18000.00,10000\n", trades);
     at = put_lines(at, "58500000,3M,QUOTE,-,-\n", quotes);
     *length = (size_t)(at - tape);
@@ -579,9 +605,37 @@ static uint8_t *nickel_tape_of(size_t trades, size_t quotes, size_t *length)
 static void look_at_longest_sheets_tape(void)
 {
     size_t length, tape_len;
-    uint8_t *sheet = nickel_of(74884, 11, &length), *tape = nickel_tape_of(74884, 11, &tape_len);
+    uint8_t *sheet = nickel_of(SHORT, 74884, 11, &length), *tape = nickel_tape_of(SHORT_LINE, 74884, 11, &tape_len);
     expect(length == BLISKORU_LONGEST_SHEET && tape_len == 2471429, "the lengths of sheet and text", "longest");
     look_at_pair(tape, tape_len, sheet, length, "the longest sheet's text");
+    free(sheet);
+    free(tape);
+}
+
+/* By a long header the longest sheet has 7 + 14 * 74,890 + 17 * 6 + 7 = 1,048,576 bytes, its text 17 + 33 * 74,890 + 22 * 6. M3 is 3M. */
+static void look_at_longest_by_long_header(void)
+{
+    static const uint64_t answers[] = {1, 1800000, 748900000, 1, 1800000, 748900000, 13, 0, 0, 15, 0, 0, 15, 0, 0, 15, 0, 0};
+    size_t length, tape_len;
+    uint8_t *sheet = nickel_of(BLISKORU_3M_IS_M3, 74890, 6, &length), *tape = nickel_tape_of(LONG_LINE, 74890, 6, &tape_len);
+    expect(length == BLISKORU_LONGEST_SHEET && tape_len == 2471519, "the lengths of sheet and text", "longest by a long header");
+    look_at_sheet(sheet, length, BLISKORU_YES, 0, answers, "longest by a long header");
+    look_at_pair(tape, tape_len, sheet, length, "longest by a long header");
+    free(sheet);
+    free(tape);
+}
+
+/* The fields of the longest sheet by a short header are a byte too long behind a long one; a barred line, the 74,897th, comes before that. */
+static void look_at_too_long_by_long_header(void)
+{
+    const struct turned too_long = refused_at(BLISKORU_SHEET_TOO_LONG, 0);
+    size_t length, tape_len;
+    uint8_t *sheet = nickel_of(BLISKORU_3M_IS_M3, 74884, 11, &length), *tape = nickel_tape_of(LONG_LINE, 74884, 11, &tape_len), *end;
+    expect(length == BLISKORU_LONGEST_SHEET + 1, "the sheet's length", "too long by a long header");
+    look_at_sheet(sheet, length, BLISKORU_SHEET_TOO_LONG, 0, NULL, "too long by a long header");
+    look_at_turning(bliskoru_tape_to_sheet, tape, tape_len, too_long, length, "too long by a long header");
+    end = put_lines(tape + tape_len, "58500000,M3-3M,QUOTE,-,-\n", 1);
+    look_at_rooms(bliskoru_tape_to_sheet, tape, (size_t)(end - tape), refused_at(BLISKORU_BARRED, 74897), "too long, and a barred instrument");
     free(sheet);
     free(tape);
 }
@@ -591,7 +645,7 @@ static void look_at_too_long_a_tape(void)
 {
     const struct turned too_long = refused_at(BLISKORU_SHEET_TOO_LONG, 0);
     size_t length;
-    uint8_t *tape = nickel_tape_of(74895, 2, &length), *end = tape + length, *end_2;
+    uint8_t *tape = nickel_tape_of(SHORT_LINE, 74895, 2, &length), *end = tape + length, *end_2;
     look_at_turning(bliskoru_tape_to_sheet, tape, length, too_long, 0, "one byte too long");
     look_at_turning(bliskoru_tape_to_sheet, tape, length, too_long, BLISKORU_LONGEST_SHEET, "one byte too long");
     look_at_turning(bliskoru_tape_to_sheet, tape, length, too_long, BLISKORU_LONGEST_SHEET + 1, "one byte too long");
@@ -606,19 +660,19 @@ static void look_at_too_long_a_tape(void)
 }
 
 /*
- * The longest lines: 21 bytes, and 39 for each of 74,897 trades, of which a sheet of 6 + 14 * 74,897 + 7 = 1,048,571 bytes is made. Each byte of a
+ * The longest lines: 23 bytes, and 39 for each of 74,897 trades, of which a sheet of 7 + 14 * 74,897 + 7 = 1,048,572 bytes is made. Each byte of a
  * sheet has at most three of text.
  */
 static void look_at_longest_lines(void)
 {
-    const size_t length = 21 + 39 * 74897;
-    uint8_t *tape = memory(length), *sheet = memory(BLISKORU_LONGEST_SHEET), *at = put_lines(tape, "METAL,Aluminium,2047\n", 1);
+    const size_t length = 23 + 39 * 74897;
+    uint8_t *tape = memory(length), *sheet = memory(BLISKORU_LONGEST_SHEET), *at = put_lines(tape, "METAL,Aluminium,2047,2\n", 1);
     size_t sheet_len = 0, line = 0;
     at = put_lines(at, "86399999,Cash-M1,TRADE,-99999.99,10000\n", 74897);
     expect((size_t)(at - tape) == length && length < BLISKORU_LONGEST_TAPE, "the text's length", "the longest lines");
     expect(bliskoru_tape_to_sheet(tape, length, sheet, BLISKORU_LONGEST_SHEET, &sheet_len, &line) == BLISKORU_YES, "the text is accepted",
            "the longest lines");
-    expect(sheet_len == 1048571, "the sheet's length", "the longest lines");
+    expect(sheet_len == 1048572, "the sheet's length", "the longest lines");
     look_at_pair(tape, length, sheet, sheet_len, "the longest lines");
     free(tape);
     free(sheet);
@@ -642,21 +696,26 @@ static void look_far(void)
 int main(int argc, char **argv)
 {
     const char *folder = argc == 2 ? argv[1] : ".";
-    each_row(folder, "hosts/edges/fields.txt", 80, look_at_field);
-    each_row(folder, "hosts/edges/heads.txt", 35, look_at_head);
-    each_row(folder, "hosts/edges/sheets.txt", 50, look_at_refused);
-    each_row(folder, "hosts/edges/answers.txt", 20, look_at_accepted);
-    each_tape(folder, "hosts/edges/tapes.txt", 400);
+    each_row(folder, "hosts/edges/fields.txt", 110, look_at_field);
+    each_row(folder, "hosts/edges/heads.txt", 50, look_at_head);
+    each_row(folder, "hosts/edges/sheets.txt", 130, look_at_refused);
+    each_row(folder, "hosts/edges/answers.txt", 50, look_at_accepted);
+    each_tape(folder, "hosts/edges/tapes.txt", 500);
     look_at_sample(folder, "nickel");
     look_at_sample(folder, "copper");
     look_at_sample(folder, "torn");
     look_at_sample(folder, "no_reference");
     look_at_sample(folder, "resting");
+    look_at_sample(folder, "third_wednesday");
     look_at_sample_tape(folder, "nickel");
     look_at_sample_tape(folder, "copper");
+    look_at_sample_tape(folder, "third_wednesday");
     look_at_longest();
     look_at_longest_listed();
+    look_at_listed_by_long_header();
     look_at_longest_sheets_tape();
+    look_at_longest_by_long_header();
+    look_at_too_long_by_long_header();
     look_at_too_long_a_tape();
     look_at_longest_lines();
     look_far();

@@ -4,8 +4,14 @@
 use crate::field::{encode, End, Field, Header, PreviousClose, Quote, Trade};
 use crate::sheet::Record;
 
+/// A short header, tag 1.
 pub fn header(metal: u8, marks: u16) -> Field {
-    Field::Header(Header { metal, marks })
+    Field::Header(Header { metal, marks, third: None })
+}
+
+/// A long header, tag 6.
+pub fn long_header(metal: u8, marks: u16, third: u8) -> Field {
+    Field::Header(Header { metal, marks, third: Some(third) })
 }
 
 pub fn close(instrument: u8, price: i32) -> Field {

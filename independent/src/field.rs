@@ -2,8 +2,8 @@
 //! over it, and the writer of one field.
 
 use crate::tables::{
-    ALL_MARKS, GREATEST_LOTS, GREATEST_OUTRIGHT, GREATEST_SPREAD, LAST_INSTRUMENT, LAST_TIME, LEAST_OUTRIGHT,
-    METALS,
+    third_row, ALL_MARKS, GREATEST_LOTS, GREATEST_OUTRIGHT, GREATEST_SPREAD, LAST_INSTRUMENT, LAST_TIME,
+    LEAST_OUTRIGHT, METALS,
 };
 
 /// The number of a refusal and the byte (or place) it carries.
@@ -16,10 +16,13 @@ pub const OFFER: u8 = 2;
 /// Bytes of a field's head: the tag and the length.
 pub const HEAD: usize = 3;
 
+/// A short header (tag 1) or a long one (tag 6).
 #[derive(Clone, Copy, Debug, PartialEq, Eq)]
 pub struct Header {
     pub metal: u8,
     pub marks: u16,
+    /// The byte of a long header, which says what 3M is; a short one has none.
+    pub third: Option<u8>,
 }
 
 #[derive(Clone, Copy, Debug, PartialEq, Eq)]
@@ -61,14 +64,14 @@ pub enum Field {
     End(End),
 }
 
-/// The length a tag demands, or none where the tag isn't 1 to 5.
+/// The length a tag demands, or none where the tag isn't 1 to 6.
 pub fn length_of_tag(tag: u8) -> Option<usize> {
     match tag {
         1 => Some(3),
         2 => Some(5),
         3 => Some(11),
         4 => Some(14),
-        5 => Some(4),
+        5 | 6 => Some(4),
         _ => None,
     }
 }
@@ -91,10 +94,15 @@ fn price(body: &[u8], from: usize) -> i32 {
     number(body, from, 4) as i32
 }
 
+/// A header's values, with the byte that a long one has.
+fn header_in(body: &[u8], third: Option<u8>) -> Field {
+    Field::Header(Header { metal: byte(body, 0), marks: short(body, 1), third })
+}
+
 /// The values in a body that has its tag's length.
 fn values_of(tag: u8, body: &[u8]) -> Field {
     match tag {
-        1 => Field::Header(Header { metal: byte(body, 0), marks: short(body, 1) }),
+        1 => header_in(body, None),
         2 => Field::PreviousClose(PreviousClose { instrument: byte(body, 0), price: price(body, 1) }),
         3 => Field::Trade(Trade {
             time: number(body, 0, 4),
@@ -109,7 +117,8 @@ fn values_of(tag: u8, body: &[u8]) -> Field {
             bid: price(body, 6),
             offer: price(body, 10),
         }),
-        _ => Field::End(End { count: number(body, 0, 4) }),
+        5 => Field::End(End { count: number(body, 0, 4) }),
+        _ => header_in(body, Some(byte(body, 3))),
     }
 }
 
@@ -137,8 +146,14 @@ fn demand(good: bool, refusal: u8) -> Result<(), u8> {
     }
 }
 
-fn judge_instrument(instrument: u8) -> Result<(), u8> {
-    demand(instrument <= LAST_INSTRUMENT, 7)
+fn judge_header(header: &Header) -> Result<(), u8> {
+    let metal_known = (1..=METALS.len()).contains(&usize::from(header.metal));
+    demand(metal_known && header.marks & !ALL_MARKS == 0 && third_row(header.third).is_some(), 6)
+}
+
+fn judge_instrument(instrument: u8, barred: &[u8]) -> Result<(), u8> {
+    demand(instrument <= LAST_INSTRUMENT, 7)?;
+    demand(!barred.contains(&instrument), 18)
 }
 
 fn judge_time(time: u32, earliest: u32) -> Result<(), u8> {
@@ -168,26 +183,24 @@ fn judge_sides(quote: &Quote) -> Result<(), u8> {
     demand(!(has_bid && has_offer) || quote.bid <= quote.offer, 11)
 }
 
-/// The values of one field, in the order 6 to 11. A time below `earliest` is
-/// 8 like one above the range; 0 leaves the range alone.
-pub fn judge_values(field: &Field, earliest: u32) -> Result<(), u8> {
+/// The values of one field, in the order 6, 7, 18, then 8 to 11. A time below
+/// `earliest` is 8 like one above the range, and a `barred` instrument is 18; 0
+/// and no instrument leave the ranges alone.
+pub fn judge_values(field: &Field, earliest: u32, barred: &[u8]) -> Result<(), u8> {
     match field {
-        Field::Header(header) => {
-            let metal_known = (1..=METALS.len()).contains(&usize::from(header.metal));
-            demand(metal_known && header.marks & !ALL_MARKS == 0, 6)
-        }
+        Field::Header(header) => judge_header(header),
         Field::PreviousClose(close) => {
-            judge_instrument(close.instrument)?;
+            judge_instrument(close.instrument, barred)?;
             judge_price(close.instrument, close.price)
         }
         Field::Trade(trade) => {
-            judge_instrument(trade.instrument)?;
+            judge_instrument(trade.instrument, barred)?;
             judge_time(trade.time, earliest)?;
             judge_price(trade.instrument, trade.price)?;
             demand((1..=GREATEST_LOTS).contains(&trade.lots), 10)
         }
         Field::Quote(quote) => {
-            judge_instrument(quote.instrument)?;
+            judge_instrument(quote.instrument, barred)?;
             judge_time(quote.time, earliest)?;
             judge_sides(quote)
         }
@@ -199,7 +212,7 @@ pub fn judge_values(field: &Field, earliest: u32) -> Result<(), u8> {
 /// (2, 3, 4, 6 to 11, 8 for the range only) with the place asked for.
 pub fn read_field(sheet: &[u8], at: usize) -> Result<(Field, usize), Refusal> {
     let (field, next) = take_field(sheet, at).map_err(|refusal| (refusal, at))?;
-    judge_values(&field, 0).map_err(|refusal| (refusal, at))?;
+    judge_values(&field, 0, &[]).map_err(|refusal| (refusal, at))?;
     Ok((field, next))
 }
 
@@ -240,8 +253,11 @@ impl<'a> Walker<'a> {
 pub fn append(bytes: &mut Vec<u8>, field: &Field) {
     match field {
         Field::Header(header) => {
-            bytes.extend([1, 0, 3, header.metal]);
+            let head = if header.third.is_some() { [6, 0, 4] } else { [1, 0, 3] };
+            bytes.extend(head);
+            bytes.push(header.metal);
             bytes.extend(header.marks.to_be_bytes());
+            bytes.extend(header.third);
         }
         Field::PreviousClose(close) => {
             bytes.extend([2, 0, 5, close.instrument]);
@@ -278,7 +294,7 @@ pub fn encode(field: &Field) -> Vec<u8> {
 /// The writer of one field: 6 to 11 (8 for the range only), then 16; all with
 /// the place as given and no byte changed. Else the place behind the field.
 pub fn write_field(field: &Field, buffer: &mut [u8], at: usize) -> Result<usize, Refusal> {
-    judge_values(field, 0).map_err(|refusal| (refusal, at))?;
+    judge_values(field, 0, &[]).map_err(|refusal| (refusal, at))?;
     let bytes = encode(field);
     let room = buffer.get_mut(at..).ok_or((16, at))?;
     let part = room.get_mut(..bytes.len()).ok_or((16, at))?;

@@ -1,7 +1,7 @@
 //! What must be printed of single fields at places that no whole sheet asks
 //! for: read, written, and walked over. The Nickel sheet is handed in.
 
-use crate::draft::{end, header, quote, sheet_of};
+use crate::draft::{end, header, long_header, quote, sheet_of, trade};
 use crate::field::{field_body, read_field, write_field, Field, Refusal, Walker};
 
 /// The text, each group of cases under a line with its label.
@@ -12,6 +12,7 @@ pub fn field_cases(nickel: &[u8]) -> String {
     text.push_str(&writes());
     text.push_str(&nickel_walks(nickel));
     text.push_str(&other_walks());
+    text.push_str(&long_headers());
     text
 }
 
@@ -123,7 +124,7 @@ fn nickel_walks(nickel: &[u8]) -> String {
 fn other_walks() -> String {
     let end_first = sheet_of(&[end(0), header(1, 0)]);
     let past = [walked(&end_first, 14, 2), walked(&end_first, usize::MAX, 2)].concat();
-    let no_tag = [6, 0, 3, 1, 0, 0];
+    let no_tag = [7, 0, 3, 1, 0, 0];
     let refused = [walked(&bad_header(), 0, 2), walked(&no_tag, 0, 2)].concat();
     [
         under(
@@ -132,6 +133,22 @@ fn other_walks() -> String {
         ),
         under("A12 past the end, and at the last place of all", &past),
         under("A12 a whole field that is refused, and a tag that is none", &refused),
+    ]
+    .concat()
+}
+
+/// The long header, which has its own tag and length; and a trade on an
+/// instrument that it bars, which is read by itself.
+fn long_headers() -> String {
+    let [good, bad] = [1, 3].map(|third| long_header(1, 0, third));
+    let marked = long_header(1, 0x0203, 2);
+    let ends = [written(1, &marked), written(2, &marked)];
+    let barred = sheet_of(&[good, trade(0, 1, 0, 1), end(2)]);
+    [
+        under("I7 a long header is read", &[read(&sheet_of(&[good]), 0)]),
+        under("I6 a byte of 3 is refused, read and written", &[read(&sheet_of(&[bad]), 0), written(0, &bad)]),
+        under("I7 a long header at the buffer's end, and one place on", &ends),
+        under("I4 a trade on an instrument that its header bars is read by itself", &walked(&barred, 0, 4)),
     ]
     .concat()
 }

@@ -7,7 +7,7 @@ use crate::generator::accepted_sheet;
 use crate::pricing::Answer;
 use crate::random::Random;
 use crate::sheet::{fields_of, judge_sheet};
-use crate::tables::{metal_row, GREATEST_OUTRIGHT, LEAST_OUTRIGHT};
+use crate::tables::{barred_instruments, metal_row, GREATEST_OUTRIGHT, LEAST_OUTRIGHT};
 
 /// An accepted sheet, the sheet made of it, and by what: the number of steps
 /// for a shifted sheet, the spread for a turned one.
@@ -128,14 +128,29 @@ fn spread_in(field: &Field) -> Option<u8> {
     (instrument > 0).then_some(instrument)
 }
 
+/// The spreads that a sheet of these fields bars: of each the mark alone is there
+/// to be turned.
+fn barred_in(fields: &[Field]) -> &'static [u8] {
+    match fields.first() {
+        Some(Field::Header(header)) => barred_instruments(header.third),
+        _ => &[],
+    }
+}
+
 /// A random accepted sheet and the same with one spread turned round, mostly
-/// one that has fields.
+/// one that has fields, at times one that the header bars.
 pub fn turned_pair(random: &mut Random) -> Pair {
     let sheet = accepted_sheet(random);
     let fields = fields_of(&sheet).unwrap_or_default();
     let used: Vec<u8> = fields.iter().filter_map(spread_in).collect();
-    let spread =
-        if used.is_empty() || random.chance(15) { random.between(1, 11) as u8 } else { random.pick(&used) };
+    let barred = barred_in(&fields);
+    let spread = if !barred.is_empty() && random.chance(25) {
+        random.pick(barred)
+    } else if used.is_empty() || random.chance(15) {
+        random.between(1, 11) as u8
+    } else {
+        random.pick(&used)
+    };
     let changed = turn_sheet(&sheet, spread).unwrap_or_else(|| sheet.clone());
     let by = i64::from(spread);
     Pair { sheet, changed, by }

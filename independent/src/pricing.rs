@@ -3,7 +3,7 @@
 use crate::indicator::{sum_by_spans, sum_by_walking, IndicatorSum};
 use crate::sheet::{Day, Record};
 use crate::tables::{
-    in_window, metal_row, window_start, Metal, CONTRACTS, GREATEST_OUTRIGHT, LEAST_OUTRIGHT, LEGS,
+    in_window, metal_row, third_row, window_start, Metal, CONTRACTS, GREATEST_OUTRIGHT, LEAST_OUTRIGHT, LEGS,
     MINIMUM_VOLUME, THREE_MONTHS, WINDOW,
 };
 
@@ -23,7 +23,7 @@ impl Method {
 }
 
 /// A contract's answer. Lots are the sum over its VWAP instruments in the
-/// window, and 0 for number 15.
+/// window, 0 for number 15, and 3M's for the M contract that 3M is.
 #[derive(Clone, Copy, Debug, PartialEq, Eq)]
 pub enum Answer {
     Priced { method: Method, price: i64, lots: u64 },
@@ -141,13 +141,24 @@ fn price_contract(day: &Day, contract: usize, closes: &[i128; 6], indicator_sum:
     Answer::Priced { method: exact.method, price: close as i64, lots }
 }
 
-/// The six answers, with a chosen way to sum the indicator.
+/// The M contract that 3M is, by its place; none on most days.
+pub fn named_contract(day: &Day) -> Option<usize> {
+    third_row(day.third).and_then(|row| row.named)
+}
+
+/// The six answers, with a chosen way to sum the indicator. At its step the
+/// named contract takes 3M's answer, which is a price: behind a refused
+/// contract no step is reached.
 pub fn price_day_with(day: &Day, indicator_sum: IndicatorSum) -> [Answer; 6] {
     let not_reached = Answer::Refused { number: 15, lots: 0 };
     let mut answers = [not_reached; 6];
     let mut closes = [0; 6];
     for contract in 0..CONTRACTS.len() {
-        answers[contract] = price_contract(day, contract, &closes, indicator_sum);
+        answers[contract] = if named_contract(day) == Some(contract) {
+            answers[THREE_MONTHS]
+        } else {
+            price_contract(day, contract, &closes, indicator_sum)
+        };
         match answers[contract] {
             Answer::Priced { price, .. } => closes[contract] = i128::from(price),
             Answer::Refused { .. } => break,

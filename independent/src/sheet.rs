@@ -2,7 +2,7 @@
 //! values, closed by an end field with the right count and nothing behind it.
 
 use crate::field::{judge_values, read_field, take_field, Field, Header, Quote, Refusal, Trade};
-use crate::tables::SHEET_LIMIT;
+use crate::tables::{barred_instruments, SHEET_LIMIT};
 
 /// A trade or a quote.
 #[derive(Clone, Copy, Debug, PartialEq, Eq)]
@@ -32,6 +32,8 @@ impl Record {
 pub struct Day {
     pub metal: u8,
     pub marks: u16,
+    /// The byte of a long header; none where the header is short.
+    pub third: Option<u8>,
     /// Previous closes as quoted, by instrument.
     pub previous_closes: [Option<i32>; 12],
     /// Trades and quotes in sheet order.
@@ -82,12 +84,14 @@ impl Met {
         }
     }
 
-    /// A field that is the next one: 5 for its place, then 6 to 11 for its values.
+    /// A field that is the next one: 5 for its place, then 6, 7, 18 and 8 to 11
+    /// for its values.
     pub(crate) fn judge(&self, field: &Field) -> Result<(), u8> {
         if !self.has_place_for(field) {
             return Err(5);
         }
-        judge_values(field, self.last_time.unwrap_or(0))
+        let barred = self.header.map_or(&[][..], |header| barred_instruments(header.third));
+        judge_values(field, self.last_time.unwrap_or(0), barred)
     }
 
     /// Enters a field that stands in its place and has good values.
@@ -117,6 +121,7 @@ impl Met {
         Some(Day {
             metal: header.metal,
             marks: header.marks,
+            third: header.third,
             previous_closes: self.previous_closes,
             records: self.records,
             fields: self.fields,
@@ -124,7 +129,7 @@ impl Met {
     }
 }
 
-/// One field judged in its sheet: 2, 3, 4, 2, then 5, then 6 to 12.
+/// One field judged in its sheet: 2, 3, 4, 2, then 5, then 6, 7, 18, 8 to 12.
 fn judge_field(sheet: &[u8], at: usize, met: &Met) -> Result<(Field, usize), u8> {
     let (field, next) = take_field(sheet, at)?;
     met.judge(&field)?;

@@ -108,10 +108,11 @@ pub fn judge(sheets: &[&[u8]]) -> String {
     lines.collect()
 }
 
-/// How many sheets are refused with each number 1 to 12, in how many a contract
-/// is refused with each number 13 to 15, and (place 0) how many are accepted.
-pub fn tally(sheets: &[&[u8]]) -> [usize; 16] {
-    let mut counts = [0; 16];
+/// How many sheets are refused with each number 1 to 12 and 18, in how many a
+/// contract is refused with each number 13 to 15, and (place 0) how many are
+/// accepted. 16 and 17 are no numbers of a sheet.
+pub fn tally(sheets: &[&[u8]]) -> [usize; 19] {
+    let mut counts = [0; 19];
     for sheet in sheets {
         match judge_sheet(sheet) {
             Err((number, _)) => counts[usize::from(number)] += 1,
@@ -132,12 +133,12 @@ fn is_refused_with(answer: &Answer, wanted: u8) -> bool {
     matches!(answer, Answer::Refused { number, .. } if *number == wanted)
 }
 
-/// The tally as text, one line for each number.
+/// The tally as text, one line for each number of a sheet.
 pub fn tally_text(sheets: &[&[u8]]) -> String {
     let counts = tally(sheets);
     let mut text = format!("sheets {}\naccepted {}\n", sheets.len(), counts[0]);
-    for (number, count) in counts.iter().enumerate().skip(1) {
-        text.push_str(&format!("{number} {count}\n"));
+    for number in (1..=15).chain([18]) {
+        text.push_str(&format!("{number} {}\n", counts[number]));
     }
     text
 }

@@ -1,5 +1,6 @@
 //! The constants of RULES 1 to 4 and SHEET 3: limits, ranges, the metals with their windows
-//! and steps, the instruments with their legs, and the contracts in pricing order.
+//! and steps, the instruments with their legs, the contracts in pricing order, and what
+//! follows where 3M is a third Wednesday.
 
 /// A sheet longer than this is refused with 1.
 pub const SHEET_LIMIT: usize = 1_048_576;
@@ -81,6 +82,43 @@ pub static CONTRACTS: [Contract; 6] = [
     contract("Cash", &[11], 11),
 ];
 
+/// One row of what a long header's byte says.
+#[derive(Debug)]
+pub struct ThirdWednesday {
+    /// The M contract that 3M is, by its place in pricing order.
+    pub named: Option<usize>,
+    /// The instruments that may have no field then, in rising order.
+    pub barred: &'static [u8],
+}
+
+const fn third_wednesday(named: Option<usize>, barred: &'static [u8]) -> ThirdWednesday {
+    ThirdWednesday { named, barred }
+}
+
+/// By the byte: 3M is no M contract, it is M3, it is M4.
+pub static THIRD_WEDNESDAYS: [ThirdWednesday; 3] = [
+    third_wednesday(None, &[]),
+    third_wednesday(Some(M3), &[1, 2, 6, 9]),
+    third_wednesday(Some(M4), &[4, 5, 6, 10]),
+];
+
+/// The row of a header's byte, or none where it is above 2. A short header has
+/// no byte, and its row is that of 0.
+pub fn third_row(third: Option<u8>) -> Option<&'static ThirdWednesday> {
+    THIRD_WEDNESDAYS.get(usize::from(third.unwrap_or(0)))
+}
+
+/// The instruments that a header with this byte bars.
+pub fn barred_instruments(third: Option<u8>) -> &'static [u8] {
+    third_row(third).map_or(&[], |row| row.barred)
+}
+
+/// The instruments that it leaves.
+pub fn allowed_instruments(third: Option<u8>) -> Vec<u8> {
+    let barred = barred_instruments(third);
+    (0..=LAST_INSTRUMENT).filter(|instrument| !barred.contains(instrument)).collect()
+}
+
 /// The legs A and B of each spread A-B by instrument number. Instrument 0 is
 /// no spread; its row is never asked for.
 pub const LEGS: [(usize, usize); 12] = [
@@ -119,13 +157,48 @@ pub fn in_window(start: u32, time: u32) -> bool {
 
 #[cfg(test)]
 mod tests {
-    use super::{CONTRACTS, INSTRUMENT_NAMES, LEGS};
+    use super::{
+        allowed_instruments, barred_instruments, third_row, CONTRACTS, INSTRUMENT_NAMES, LEGS, M4,
+        THREE_MONTHS,
+    };
 
     #[test]
     fn a_spread_has_the_names_of_its_legs() {
         assert_eq!(INSTRUMENT_NAMES[0], CONTRACTS[0].name);
         for (name, (a, b)) in INSTRUMENT_NAMES.iter().zip(LEGS).skip(1) {
             assert_eq!(*name, format!("{}-{}", CONTRACTS[a].name, CONTRACTS[b].name));
+        }
+    }
+
+    /// The spreads that have this contract as a leg.
+    fn spreads_of(contract: usize) -> Vec<u8> {
+        let has = |(_, (a, b)): &(u8, (usize, usize))| *a == contract || *b == contract;
+        (1..).zip(LEGS.into_iter().skip(1)).filter(has).map(|(spread, _)| spread).collect()
+    }
+
+    /// Where 3M is M3 all spreads of 3M are barred, and where it is M4 all of M4.
+    #[test]
+    fn all_spreads_of_one_contract_are_barred() {
+        assert_eq!(barred_instruments(Some(1)), spreads_of(THREE_MONTHS));
+        assert_eq!(barred_instruments(Some(2)), spreads_of(M4));
+        assert_eq!(barred_instruments(Some(0)), barred_instruments(None));
+        assert_eq!(allowed_instruments(Some(1)), [0, 3, 4, 5, 7, 8, 10, 11]);
+        assert_eq!(allowed_instruments(Some(2)), [0, 1, 2, 3, 7, 8, 9, 11]);
+        assert_eq!(allowed_instruments(None).len(), 12);
+        assert!(third_row(Some(3)).is_none() && third_row(Some(255)).is_none());
+    }
+
+    /// No spread is left to price the named contract, and the TWAP spread is
+    /// left to every other one.
+    #[test]
+    fn what_is_barred_leaves_the_other_contracts_their_twap() {
+        for third in [Some(1), Some(2)] {
+            let allowed = allowed_instruments(third);
+            let named = third_row(third).and_then(|row| row.named);
+            for (place, row) in CONTRACTS.iter().enumerate() {
+                assert_eq!(allowed.contains(&row.twap_from), named != Some(place), "{}", row.name);
+                assert_eq!(row.vwap_from.iter().any(|from| allowed.contains(from)), named != Some(place));
+            }
         }
     }
 }

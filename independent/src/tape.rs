@@ -3,12 +3,14 @@
 //!
 //! ```text
 //! METAL,name,marks
+//! METAL,name,marks,third
 //! PREV,instrument,price
 //! time,instrument,TRADE,price,lots
 //! time,instrument,QUOTE,bid,offer
 //! ```
 //!
 //! Prices are in dollars with two decimals, and `-` stands for an absent side.
+//! The METAL line of three values is a long header's, its last value the byte.
 //! The end field has no line. Every accepted sheet has one text, and every
 //! accepted text is that of one sheet.
 
@@ -20,7 +22,7 @@ use crate::tables::{metal_row, INSTRUMENT_NAMES, METALS, SHEET_LIMIT};
 pub const TAPE_LIMIT: usize = 3_145_728;
 
 /// The sheet of a text, or the refusal: that of the first bad line with its
-/// number from 1 on (17, then 5, 6, 8 to 11), 5 at line 1 for no line at all,
+/// number from 1 on (17, 5, 6, 18, 8 to 11), 5 at line 1 for no line at all,
 /// then 1 and 16 at 0. `room` is what the lent buffer holds.
 pub fn tape_to_sheet(text: &[u8], room: usize) -> Result<Vec<u8>, Refusal> {
     let mut met = Met::default();
@@ -72,7 +74,11 @@ fn field_of(line: &[u8]) -> Option<Field> {
 fn metal_line<'a>(items: &mut impl Iterator<Item = &'a [u8]>) -> Option<Field> {
     let metal = 1 + numbered(METALS.iter().map(|metal| metal.name), items.next()?)?;
     let marks = u16::try_from(number(items.next()?)?).unwrap_or(u16::MAX);
-    Some(Field::Header(Header { metal, marks }))
+    let third = match items.next() {
+        Some(item) => Some(u8::try_from(number(item)?).unwrap_or(u8::MAX)),
+        None => None,
+    };
+    Some(Field::Header(Header { metal, marks, third }))
 }
 
 fn prev_line<'a>(items: &mut impl Iterator<Item = &'a [u8]>) -> Option<Field> {
@@ -157,6 +163,10 @@ fn text_of(day: &Day) -> Vec<u8> {
     text.extend(metal_row(day.metal).map_or("", |metal| metal.name).as_bytes());
     text.push(b',');
     put_number(&mut text, day.marks.into());
+    if let Some(third) = day.third {
+        text.push(b',');
+        put_number(&mut text, third.into());
+    }
     text.push(b'\n');
     for (name, price) in INSTRUMENT_NAMES.iter().zip(day.previous_closes) {
         if let Some(price) = price {

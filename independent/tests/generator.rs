@@ -1,18 +1,18 @@
 //! What the generator makes: accepted sheets are accepted, faults are refused
 //! as they were meant to be, every number and every kind of answer comes up.
 
-use independent::draft::{ended_sheet, header};
-use independent::field::Quote;
+use independent::draft::{ended_sheet, header, long_header};
+use independent::field::{Field, Quote};
 use independent::generator::fault::sheet_with_fault;
 use independent::generator::sized::sized_sheet;
 use independent::generator::{accepted_sheet, damaged_sheet, random_sheet};
 use independent::indicator::sum_by_spans;
-use independent::pricing::{exact_price, price_day_by_spans, step_of, Method};
+use independent::pricing::{exact_price, named_contract, price_day_by_spans, step_of, Method};
 use independent::random::Random;
 use independent::sheet::Record;
 use independent::stream::{cases, frames, stream_of_cases, tally};
 use independent::tables::{in_window, metal_row, window_start, CONTRACTS, WINDOW};
-use independent::{closing_list, judge_sheet, Answer, Day};
+use independent::{closing_list, judge_sheet, read_field, Answer, Day};
 use std::collections::HashMap;
 
 /// The program that answers the stream reads so many bytes of it.
@@ -27,7 +27,7 @@ fn accepted_days(count: u64) -> impl Iterator<Item = Day> {
 
 #[test]
 fn faults_are_refused_as_they_were_made() {
-    for number in 1..=12 {
+    for number in (1..=12).chain([18]) {
         let rounds = if number == 1 { 3 } else { 1_500 };
         for item in 0..rounds {
             let made = sheet_with_fault(&mut Random::for_item(u64::from(number), item), number);
@@ -38,12 +38,68 @@ fn faults_are_refused_as_they_were_made() {
     }
 }
 
+/// The field that a faulty sheet was made for, without any test of its values.
+fn faulty_field(sheet: &[u8], byte: usize) -> Field {
+    independent::field::take_field(sheet, byte).expect("a whole field").0
+}
+
+/// Every barred instrument in every kind of field, alone at fault and with more.
+#[test]
+fn i4_every_barred_instrument_comes_up_in_every_kind_of_field() {
+    let mut counts: HashMap<(Option<u8>, u8, &str, bool), usize> = HashMap::new();
+    for item in 0..4_000 {
+        let made = sheet_with_fault(&mut Random::for_item(18, item), 18);
+        let Ok((Field::Header(header), _)) = read_field(&made.sheet, 0) else { panic!("a header") };
+        let (kind, instrument) = match faulty_field(&made.sheet, made.byte) {
+            Field::PreviousClose(close) => ("close", close.instrument),
+            Field::Trade(trade) => ("trade", trade.instrument),
+            Field::Quote(quote) => ("quote", quote.instrument),
+            other => panic!("{other:?}"),
+        };
+        let alone = read_field(&made.sheet, made.byte).is_ok();
+        *counts.entry((header.third, instrument, kind, alone)).or_default() += 1;
+    }
+    assert_eq!(counts.len(), 2 * 4 * 3 * 2);
+    assert!(counts.values().all(|count| *count >= 20), "{counts:?}");
+}
+
+/// Second headers of either form behind either form.
+#[test]
+fn i5_both_headers_come_up_in_one_sheet() {
+    let mut counts: HashMap<(bool, bool), usize> = HashMap::new();
+    for item in 0..2_000 {
+        let made = sheet_with_fault(&mut Random::for_item(5, item), 5);
+        let is_header = |byte: usize| matches!(made.sheet.get(byte), Some(1 | 6));
+        if made.byte > 0 && made.byte + 7 < made.sheet.len() && is_header(made.byte) {
+            let key = (made.sheet[0] == 6, made.sheet[made.byte] == 6);
+            *counts.entry(key).or_default() += 1;
+        }
+    }
+    assert_eq!(counts.len(), 4);
+    assert!(counts.values().all(|count| *count >= 30), "{counts:?}");
+}
+
+/// A third of all headers are long, and 0, 1 and 2 are as often in them.
+#[test]
+fn i9_long_headers_are_a_third() {
+    let mut counts: HashMap<Option<u8>, usize> = HashMap::new();
+    accepted_days(3_600).for_each(|day| *counts.entry(day.third).or_default() += 1);
+    assert!((2_200..2_600).contains(&counts[&None]), "{counts:?}");
+    for third in 0..=2 {
+        assert!((330..480).contains(&counts[&Some(third)]), "{counts:?}");
+    }
+}
+
 /// How often each contract gets each answer: method and whether its price is
 /// on an exact half, or the number of its refusal.
 fn kinds_of_answers(day: &Day, kinds: &mut HashMap<(usize, String), usize>) {
     let mut closes = [0; 6];
     for (contract, answer) in price_day_by_spans(day).into_iter().enumerate() {
         let kind = match answer {
+            Answer::Priced { method, price, .. } if named_contract(day) == Some(contract) => {
+                closes[contract] = i128::from(price);
+                format!("3M's {}", method.name())
+            }
             Answer::Refused { number, .. } => format!("refused {number}"),
             Answer::Priced { method, price, .. } => {
                 let (exact, _) = exact_price(day, contract, &closes, sum_by_spans);
@@ -70,6 +126,10 @@ fn every_kind_of_answer_comes_up_for_every_contract() {
             let count = kinds.get(&(contract, kind.to_string())).copied();
             assert!(count.unwrap_or(0) >= 20, "{contract} {kind}: {count:?}");
         }
+    }
+    for (contract, kind) in [(1, "3M's VWAP"), (1, "3M's TWAP"), (3, "3M's VWAP"), (3, "3M's TWAP")] {
+        let count = kinds.get(&(contract, kind.to_string())).copied();
+        assert!(count.unwrap_or(0) >= 100, "{contract} {kind}: {count:?}");
     }
 }
 
@@ -189,13 +249,13 @@ fn damaged_sheets_are_mostly_refused_and_never_panic() {
 }
 
 #[test]
-fn every_refusal_from_2_to_15_is_in_the_stream() {
+fn every_number_of_a_sheet_but_1_is_in_the_stream() {
     let sheets = cases(1, 2_300);
     let lent: Vec<&[u8]> = sheets.iter().map(Vec::as_slice).collect();
     let counts = tally(&lent);
     assert_eq!(counts[1], 0, "1 needs more bytes than the stream allows");
-    for (number, count) in counts.iter().enumerate().skip(2) {
-        assert!(*count >= 20, "{number}: {count}");
+    for number in (2..=15).chain([18]) {
+        assert!(counts[number] >= 20, "{number}: {}", counts[number]);
     }
     assert!(counts[0] > 1_000);
 }
@@ -233,8 +293,12 @@ fn a_case_depends_on_its_seed_and_place_only() {
 #[test]
 fn sized_sheets_have_their_size() {
     assert_eq!(sized_sheet(&mut Random::new(1), 12), None);
-    let smallest = sized_sheet(&mut Random::new(1), 13).unwrap();
-    assert_eq!(smallest.len(), ended_sheet(&[header(1, 0)]).len());
+    for item in 0..20 {
+        let short = sized_sheet(&mut Random::new(item), 13).unwrap();
+        assert_eq!(short.len(), ended_sheet(&[header(1, 0)]).len());
+        let long = sized_sheet(&mut Random::new(item), 14).unwrap();
+        assert_eq!(long.len(), ended_sheet(&[long_header(1, 0, 0)]).len());
+    }
     for bytes in [200, 1_000, 65_535, 65_536, 65_537, 1_048_576] {
         let sheet = sized_sheet(&mut Random::new(3), bytes).unwrap();
         assert_eq!(sheet.len(), bytes);

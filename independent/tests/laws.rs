@@ -1,10 +1,10 @@
 //! The two laws of docs/LAWS.md on random pairs, and the pairs themselves.
 
-use independent::draft::{close, ended_sheet, header, quote, trade};
+use independent::draft::{close, ended_sheet, header, long_header, quote, trade};
 use independent::laws::{has_14, moved_alike, possible_steps, shift_sheet, turn_sheet, Pair};
 use independent::pricing::price_day_by_spans;
 use independent::stream::{shifted, turned};
-use independent::tables::metal_row;
+use independent::tables::{barred_instruments, metal_row};
 use independent::{judge_sheet, Answer, Day, Method};
 
 fn day(sheet: &[u8]) -> Day {
@@ -106,7 +106,9 @@ fn g1_resting_bids_obey_both_laws() {
 fn r2_the_first_law_holds() {
     let mut compared = 0;
     let mut moved = 0;
+    let mut named = [0; 4];
     for Pair { sheet, changed, by } in shifted(4, 3_000) {
+        named[place_of_byte(&sheet)] += 1;
         let step = i64::from(metal_row(day(&sheet).metal).unwrap().step);
         assert_eq!(shift_sheet(&sheet, by), Some(changed.clone()));
         let (before, after) = (answers(&sheet), answers(&changed));
@@ -117,16 +119,57 @@ fn r2_the_first_law_holds() {
         }
     }
     assert!(compared > 1_500 && moved > 1_200, "{compared} {moved}");
+    assert!(named.iter().all(|count| *count > 200), "{named:?}");
+}
+
+/// 0 for a short header, 1 to 3 for the bytes 0 to 2.
+fn place_of_byte(sheet: &[u8]) -> usize {
+    day(sheet).third.map_or(0, |third| 1 + usize::from(third))
+}
+
+#[test]
+fn r4_turning_a_barred_spread_changes_its_mark_alone() {
+    for (third, spreads) in [(1, [1, 2, 6, 9]), (2, [4, 5, 6, 10])] {
+        let sheet = |marks: u16| {
+            ended_sheet(&[
+                long_header(1, marks, third),
+                close(0, 1_000),
+                close(3, -7),
+                quote(1, 3, 1, -9, 0),
+                trade(2, 0, 801, 9),
+                trade(2, 7, 4, 1),
+            ])
+        };
+        for spread in spreads {
+            let mark = 1 << (spread - 1);
+            assert_eq!(turn_sheet(&sheet(0), spread), Some(sheet(mark)), "{spread}");
+            assert_eq!(turn_sheet(&sheet(0x07FF), spread), Some(sheet(0x07FF & !mark)), "{spread}");
+            assert_eq!(answers(&sheet(0)), answers(&sheet(mark)), "{spread}");
+        }
+    }
+}
+
+#[test]
+fn r1_a_long_header_stays_as_it_is() {
+    let sheet =
+        |up: i32| ended_sheet(&[long_header(1, 3, 2), close(0, 1_000 + up), trade(2, 0, 801 + up, 9)]);
+    assert_eq!(shift_sheet(&sheet(0), 3), Some(sheet(300)));
+    assert_eq!(possible_steps(&sheet(0)), Some((-8, 999_989)));
 }
 
 #[test]
 fn the_second_law_holds() {
     let mut changed_bytes = 0;
+    let mut barred = 0;
+    let mut named = [0; 4];
     for Pair { sheet, changed, by } in turned(4, 3_000) {
+        named[place_of_byte(&sheet)] += 1;
+        barred += usize::from(barred_instruments(day(&sheet).third).contains(&(by as u8)));
         assert_eq!(turn_sheet(&sheet, by as u8), Some(changed.clone()));
         assert_eq!(answers(&sheet), answers(&changed), "{sheet:?} {by}");
         let differing = sheet.iter().zip(&changed).filter(|(one, other)| one != other);
         changed_bytes += usize::from(differing.count() > 2);
     }
     assert!(changed_bytes > 2_000, "{changed_bytes}");
+    assert!(barred > 100 && named.iter().all(|count| *count > 200), "{barred} {named:?}");
 }

@@ -33,7 +33,7 @@ fn names_are_told_apart() {
 }
 
 #[test]
-fn every_row_of_b_c_and_g_seen_from_outside_has_a_named_case() {
+fn every_row_of_b_c_g_and_i_seen_from_outside_has_a_named_case() {
     let cases = named_cases();
     let large = large_cases();
     let named = |id: &str| {
@@ -49,6 +49,9 @@ fn every_row_of_b_c_and_g_seen_from_outside_has_a_named_case() {
     for row in 1..=2 {
         assert!(named(&format!("G{row}")), "G{row}");
     }
+    for row in [1, 2, 3, 4, 5, 6, 8, 9, 10] {
+        assert!(named(&format!("I{row}")), "I{row}");
+    }
 }
 
 #[test]
@@ -56,7 +59,8 @@ fn b17_b18_d1_large_sheets() {
     let cases = large_cases();
     let lengths: Vec<usize> = cases.iter().map(|case| case.sheet.len()).collect();
     assert_eq!(lengths[..4], [65_537, 1_048_576, 1_048_577, 1_048_577]);
-    assert_eq!(lengths[4..], [1_048_576; 8]);
+    assert_eq!(lengths[4..14], [1_048_576; 10]);
+    assert_eq!(lengths[14..], [1_048_577]);
     for NamedCase { name, sheet, list } in cases {
         assert_eq!(text(unlimited_list(&sheet)), list, "{name}");
         assert_eq!(text(closing_list(&sheet)), "too long\n", "{name}");
@@ -67,9 +71,10 @@ fn b17_b18_d1_large_sheets() {
 fn b17_the_judge_of_large_sheets() {
     let lines: Vec<String> = large_cases().iter().map(|case| judge_line(&case.sheet)).collect();
     assert_eq!(lines[..4], ["accepted 4 0 4684", "accepted 4 0 74900", "refused 1 0", "refused 1 0"]);
-    for line in &lines[4..] {
+    for line in &lines[4..12] {
         assert!(["accepted 4 0 74900", "accepted 1 0 74900"].contains(&line.as_str()), "{line}");
     }
+    assert_eq!(lines[12..], ["accepted 4 0 74901", "accepted 4 0 74901", "refused 1 0"]);
 }
 
 /// The sums that the longest sheets' comments state: each on a half of its
@@ -89,7 +94,8 @@ fn the_longest_sheets_have_the_sums_that_they_name() {
         wanted.extend([sum, sum - 10_000]);
     }
     wanted.extend([74_893_998_876_590_000, 74_893_998_876_580_000]);
-    let found: Vec<u128> = large_cases()[4..].iter().map(|case| greatest_sum(&case.sheet)).collect();
+    wanted.extend([74_894_943_828_750_000, 74_894_943_828_740_000]);
+    let found: Vec<u128> = large_cases()[4..14].iter().map(|case| greatest_sum(&case.sheet)).collect();
     assert_eq!(found, wanted);
 }
 

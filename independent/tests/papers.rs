@@ -1,11 +1,12 @@
 //! The papers' own examples: the Nickel sheet byte by byte, the proved cases
-//! P1 to P12, and the exchange's Copper example.
+//! P1 to P12, the exchange's Copper example, and the day on which 3M is M3.
 
 use independent::closing_list;
 use independent::draft::{close, ended_sheet, header, quote, trade};
 use independent::indicator::{sum_by_spans, sum_by_walking};
 use independent::judge_sheet;
-use independent::named::{copper_sheet, nickel_sheet, COPPER_LIST, NICKEL_LIST};
+use independent::named::{copper_sheet, nickel_sheet, third_wednesday_sheet};
+use independent::named::{COPPER_LIST, NICKEL_LIST, THIRD_WEDNESDAY_LIST};
 use independent::pricing::round_to_step;
 
 /// The 130 bytes, worked out by hand.
@@ -37,6 +38,19 @@ fn the_nickel_sheet_has_these_bytes_and_this_list() {
 #[test]
 fn the_copper_example_gives_the_rules_m1_and_cash() {
     assert_eq!(list(&copper_sheet()), COPPER_LIST);
+}
+
+fn example(name: &str) -> Vec<u8> {
+    std::fs::read(format!("{}/../examples/{name}", env!("CARGO_MANIFEST_DIR"))).unwrap()
+}
+
+#[test]
+fn i9_the_day_on_which_3m_is_m3_is_the_example_sheet() {
+    assert_eq!(example("third_wednesday.sheet"), third_wednesday_sheet());
+    assert_eq!(example("third_wednesday.list"), THIRD_WEDNESDAY_LIST.as_bytes());
+    assert_eq!(list(&third_wednesday_sheet()), THIRD_WEDNESDAY_LIST);
+    assert_eq!(round_to_step(5 * 700_400 + 2 * 700_000, 7, 50), 700_300);
+    assert_eq!(round_to_step(5 * 701_800 + 2 * 701_250, 7, 1), 701_643);
 }
 
 #[test]

@@ -4,7 +4,7 @@
 use independent::field::{BID, OFFER};
 use independent::generator::{accepted_sheet, sized::sized_sheet};
 use independent::indicator::{sum_by_spans, sum_by_walking};
-use independent::pricing::{price_day_by_spans, round_to_step};
+use independent::pricing::{named_contract, price_day_by_spans, round_to_step};
 use independent::random::Random;
 use independent::sheet::Record;
 use independent::tables::{in_window, metal_row, window_start, CONTRACTS, WINDOW};
@@ -127,11 +127,17 @@ fn words_of_13(day: &Day, contract: usize) -> (bool, u64) {
     (lots < 5 && no_close && !trades(day).any(early), lots)
 }
 
+/// The answers of a day's contracts that go by their own instruments.
+fn own_answers(day: &Day) -> impl Iterator<Item = (usize, Answer)> {
+    let named = named_contract(day);
+    price_day_by_spans(day).into_iter().enumerate().filter(move |(contract, _)| Some(*contract) != named)
+}
+
 #[test]
 fn c1_to_c4_refusals_and_lots_follow_their_words() {
     for day in random_days(3_000) {
         let mut stopped = false;
-        for (contract, answer) in price_day_by_spans(&day).into_iter().enumerate() {
+        for (contract, answer) in own_answers(&day) {
             let (is_13, in_all) = words_of_13(&day, contract);
             match answer {
                 Answer::Refused { number: 15, lots } => assert!(stopped && lots == 0),
@@ -141,6 +147,40 @@ fn c1_to_c4_refusals_and_lots_follow_their_words() {
                 }
                 Answer::Priced { lots, .. } => assert!(!stopped && !is_13 && lots == in_all),
             }
+        }
+    }
+}
+
+/// The named contract has 3M's answer where every contract before it has a price,
+/// and 15 with 0 lots behind a refused one; without its own instruments it would
+/// be 13.
+#[test]
+fn i1_i9_the_named_contract_follows_its_words() {
+    let mut counts = [0; 2];
+    for day in random_days(3_000) {
+        let answers = price_day_by_spans(&day);
+        if let Some(named) = named_contract(&day) {
+            let refused = |answer: &Answer| matches!(answer, Answer::Refused { .. });
+            let stopped = answers[..named].iter().any(refused);
+            let not_reached = Answer::Refused { number: 15, lots: 0 };
+            assert_eq!(answers[named], if stopped { not_reached } else { answers[0] });
+            assert_eq!(words_of_13(&day, named), (true, 0));
+            counts[usize::from(stopped)] += 1;
+        }
+    }
+    assert!(counts[0] > 300 && counts[1] > 30, "{counts:?}");
+}
+
+/// With byte 0 in a long header every answer is that behind a short one.
+#[test]
+fn i8_byte_0_prices_as_no_byte() {
+    for mut day in random_days(300) {
+        if named_contract(&day).is_none() {
+            let answers = [None, Some(0)].map(|third| {
+                day.third = third;
+                price_day_by_spans(&day)
+            });
+            assert_eq!(answers[0], answers[1]);
         }
     }
 }

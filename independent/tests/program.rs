@@ -82,7 +82,7 @@ fn sheets_written_as_digits_are_judged_and_priced() {
 fn single_fields_are_read_written_and_walked_over() {
     let text = printed(&["field-cases"], &[&nickel_sheet()]);
     let lines: Vec<&str> = text.lines().collect();
-    assert_eq!(lines.len(), 65);
+    assert_eq!(lines.len(), 78);
     for line in [
         "refused 2 18446744073709551615 0",
         "field 1048583 3",
@@ -92,6 +92,9 @@ fn single_fields_are_read_written_and_walked_over() {
         "78: field 95 14",
         "123: field 130 4",
         "130: refused 2 130 0",
+        "field 8: 7 6 0 4 1 2 3 2",
+        "refused 16 2: 7 7 7 7 7 7 7 7",
+        "7: field 21 11",
     ] {
         assert!(lines.contains(&line), "{line}");
     }
@@ -122,6 +125,8 @@ fn texts_and_sheets_are_turned() {
     assert_eq!(outputs(to_tape, &nickel_sheet()), (NICKEL_TAPE.as_bytes().to_vec(), String::new()));
     assert_eq!(outputs(to_sheet, b""), told("refused 5 1\n"));
     assert_eq!(outputs(to_sheet, b"METAL,Tin,0\n"), told("refused 17 1\n"));
+    assert_eq!(outputs(to_sheet, b"METAL,Zinc,0,3\n"), told("refused 6 1\n"));
+    assert_eq!(outputs(to_sheet, b"METAL,Zinc,0,1\nPREV,M3-3M,1.00\n"), told("refused 18 2\n"));
     assert_eq!(outputs(to_tape, &nickel_sheet()[..129]), told("refused 2 123\n"));
     assert_eq!(outputs(to_sheet, &[b'7'; 3_145_728]), told("refused 17 1\n"));
     assert_eq!(outputs(to_sheet, &[b'7'; 3_145_729]), told("too long\n"));

@@ -1,8 +1,8 @@
 //! Labels A of docs/CASES.md: the reader of one field and the walker.
 
-use independent::draft::{close, end, header, quote, sheet_of, trade};
-use independent::field::{encode, field_body};
-use independent::{read_field, Field, Walker};
+use independent::draft::{close, end, header, long_header, quote, sheet_of, trade};
+use independent::field::{encode, field_body, Header};
+use independent::{judge_sheet, read_field, Field, Walker};
 
 fn read(field: Field) -> Result<(Field, usize), (u8, usize)> {
     read_field(&encode(&field), 0)
@@ -137,8 +137,47 @@ fn a12_the_walker_stays_at_a_refusal_and_walks_on_behind_an_end() {
 }
 
 #[test]
-fn a13_tags_6_and_7_are_3() {
-    for tag in [0, 6, 7, 8, 255] {
+fn a13_tag_7_is_3() {
+    for tag in [0, 7, 8, 255] {
         assert_eq!(read_field(&[tag, 0, 4, 1, 0, 0, 0], 0), Err((3, 0)));
     }
+}
+
+#[test]
+fn i7_a_header_says_which_tag_it_has() {
+    let values = |third: Option<u8>| Field::Header(Header { metal: 1, marks: 258, third });
+    assert_eq!(encode(&values(None)), [1, 0, 3, 1, 1, 2]);
+    assert_eq!(read_field(&[1, 0, 3, 1, 1, 2], 0), Ok((values(None), 6)));
+    for third in 0..=2 {
+        let bytes = [6, 0, 4, 1, 1, 2, third];
+        assert_eq!(encode(&values(Some(third))), bytes);
+        assert_eq!(read_field(&bytes, 0), Ok((values(Some(third)), 7)));
+        assert_eq!(field_body(&bytes, 0), [1, 1, 2, third]);
+    }
+    assert_eq!(read_field(&[6, 0, 3, 1, 0, 0, 0], 0), Err((4, 0)));
+    assert_eq!(read_field(&[1, 0, 4, 1, 0, 0, 0], 0), Err((4, 0)));
+    assert_eq!(read_field(&[6, 0, 4, 1, 0, 0], 0), Err((2, 0)));
+}
+
+#[test]
+fn i6_metal_marks_and_byte_of_a_long_header() {
+    for third in 3..=255 {
+        assert_eq!(read(long_header(1, 0, third)), Err((6, 0)));
+    }
+    assert_eq!(read(long_header(0, 0, 3)), Err((6, 0)));
+    assert_eq!(read(long_header(6, 0, 0)), Err((6, 0)));
+    assert_eq!(read(long_header(5, 0x0800, 2)), Err((6, 0)));
+    assert_eq!(read(long_header(5, 0x07FF, 2)), Ok((long_header(5, 0x07FF, 2), 7)));
+}
+
+/// The reader and the walker look at one field: 18 is for the whole sheet.
+#[test]
+fn i4_the_reader_of_one_field_bars_nothing() {
+    let fields = [long_header(1, 0, 1), close(6, 0), trade(0, 1, 0, 1), quote(0, 9, 0, 0, 0), end(4)];
+    let sheet = sheet_of(&fields);
+    let mut walker = Walker::new(&sheet, 0);
+    for field in fields {
+        assert_eq!(walker.step(), Ok(field));
+    }
+    assert_eq!(judge_sheet(&sheet), Err((18, 7)));
 }

@@ -4,10 +4,10 @@
 use independent::field::{Field, BID, OFFER};
 use independent::generator::tapes::{sized_tape, tape, TapeKind, DAMAGES};
 use independent::generator::{accepted_sheet, random_sheet};
-use independent::named::nickel_sheet;
 use independent::named::tapes::{
-    large_tapes, large_untapes, named_tapes, named_untapes, NamedTape, NICKEL_TAPE,
+    large_tapes, large_untapes, named_tapes, named_untapes, NamedTape, NICKEL_TAPE, THIRD_WEDNESDAY_TAPE,
 };
+use independent::named::{nickel_sheet, third_wednesday_sheet};
 use independent::random::Random;
 use independent::sheet::fields_of;
 use independent::tables::SHEET_LIMIT;
@@ -61,9 +61,18 @@ fn the_nickel_text_is_the_example_sheet() {
 }
 
 #[test]
+fn h11_the_day_on_which_3m_is_m3_is_the_example_text() {
+    let example =
+        std::fs::read(concat!(env!("CARGO_MANIFEST_DIR"), "/../examples/third_wednesday.tape")).unwrap();
+    assert_eq!(example, THIRD_WEDNESDAY_TAPE.as_bytes());
+    assert_eq!(tape_to_sheet(&example, SHEET_LIMIT), Ok(third_wednesday_sheet()));
+    assert_eq!(sheet_to_tape(&third_wednesday_sheet(), TAPE_LIMIT), Ok(example));
+}
+
+#[test]
 fn every_row_of_h_has_a_named_case() {
     let cases = [named_tapes(), named_untapes(), large_tapes(), large_untapes()].concat();
-    for row in [1, 2, 3, 4, 5, 6, 7, 8, 9, 11, 12] {
+    for row in 1..=12 {
         let label = format!("H{row} ");
         assert!(cases.iter().any(|case| case.name.starts_with(&label)), "{label}");
     }
@@ -84,6 +93,7 @@ fn every_number_has_named_cases() {
         assert_eq!(lines(number), BTreeSet::from([1, 2, 3]), "{number}");
     }
     assert_eq!(lines(8), BTreeSet::from([2, 3]));
+    assert_eq!(lines(18), BTreeSet::from([2, 3]));
     for number in [9, 10, 11] {
         assert!(lines(number).contains(&2), "{number}");
     }
@@ -120,7 +130,7 @@ fn canonical_texts_go_there_and_back() {
 #[test]
 fn damaged_texts_are_refused_or_go_there_and_back() {
     let mut places: HashMap<u8, Vec<usize>> = HashMap::new();
-    for number in 0..5_000 {
+    for number in 0..6_000 {
         let text = tape(2, number, TapeKind::Damaged);
         let lines = text.split_inclusive(|byte| *byte == b'\n').count();
         match judged(&text) {
@@ -133,10 +143,10 @@ fn damaged_texts_are_refused_or_go_there_and_back() {
         }
     }
     let refused: usize = places.values().map(Vec::len).sum();
-    assert!((4_000..4_950).contains(&refused), "{refused}");
-    assert_eq!(places.len(), 7, "{:?}", places.keys());
+    assert!((4_800..5_900).contains(&refused), "{refused}");
+    assert_eq!(places.len(), 8, "{:?}", places.keys());
     assert!(places[&6].len() >= 60 && places[&6].iter().all(|line| *line == 1));
-    for number in [5, 8, 9, 10, 11, 17] {
+    for number in [5, 8, 9, 10, 11, 17, 18] {
         let lines: BTreeSet<usize> = places[&number].iter().copied().collect();
         assert!(places[&number].len() >= 60 && lines.len() >= 15, "{number} {lines:?}");
     }
@@ -152,7 +162,12 @@ fn every_damage_is_seen() {
             judged(&done).is_err()
         });
         let least = match damage.name {
-            "another name" | "any digit" | "line missing" | "line twice" | "lines swapped"
+            "another name"
+            | "another third value"
+            | "any digit"
+            | "line missing"
+            | "line twice"
+            | "lines swapped"
             | "the other sign" => 3,
             _ => 30,
         };
@@ -175,6 +190,7 @@ fn canonical_texts_hold_everything() {
         }
     }
     let mut wanted: Vec<String> = (1..=5).map(|metal| format!("metal {metal}")).collect();
+    wanted.extend([None, Some(0), Some(1), Some(2)].map(|third| format!("third {third:?}")));
     wanted.extend((0..11).map(|bit| format!("mark {bit}")));
     for kind in ["close", "trade", "quote"] {
         wanted.extend((0..12).map(|instrument| format!("{kind} of {instrument}")));
@@ -199,7 +215,7 @@ fn told(field: &Field) -> Vec<String> {
     match *field {
         Field::Header(header) => {
             let marks = (0..11).filter(|bit| header.marks >> bit & 1 == 1).map(|bit| format!("mark {bit}"));
-            marks.chain([format!("metal {}", header.metal)]).collect()
+            marks.chain([format!("metal {}", header.metal), format!("third {:?}", header.third)]).collect()
         }
         Field::PreviousClose(close) => {
             vec![format!("close of {}", close.instrument), price(close.instrument, close.price)]
@@ -248,7 +264,7 @@ fn h12_a_refused_sheet_has_its_own_refusal() {
             }
         }
     }
-    assert_eq!(numbers, (2..=12).collect());
+    assert_eq!(numbers, (2..=12).chain([18]).collect());
 }
 
 /// A text cut anywhere is 17 at the line that is cut; between two lines it is

@@ -1,6 +1,6 @@
 //! Labels E of docs/CASES.md: the writer of one field.
 
-use independent::draft::{close, end, header, quote, trade};
+use independent::draft::{close, end, header, long_header, quote, trade};
 use independent::field::encode;
 use independent::generator::values::any_field;
 use independent::random::Random;
@@ -32,6 +32,8 @@ fn a_field_is_written_and_nothing_else_is_changed() {
 fn every_kind_of_field_reads_back() {
     let fields = [
         header(5, 0x07FF),
+        long_header(5, 0x07FF, 0),
+        long_header(1, 0, 2),
         close(0, 99_999_999),
         trade(86_399_999, 11, -9_999_999, 10_000),
         quote(1, 0, 3, 1, 2),
@@ -51,6 +53,8 @@ fn e1_the_order_of_the_writers_numbers() {
     for at in [0, 39, 40, 41, usize::MAX] {
         assert_refused(header(6, 0), at, 6);
         assert_refused(header(1, 0x0800), at, 6);
+        assert_refused(long_header(1, 0, 3), at, 6);
+        assert_refused(long_header(9, 0, 0), at, 6);
         assert_refused(close(12, 0), at, 7);
         assert_refused(trade(86_400_000, 12, 0, 0), at, 7);
         assert_refused(trade(86_400_000, 0, 0, 0), at, 8);
@@ -91,6 +95,15 @@ fn e4_the_place_is_not_bound_by_the_sheets_limit() {
 fn e5_any_count_is_written() {
     assert_eq!(write(end(u32::MAX), 0).0, Ok(7));
     assert_eq!(write(end(0), 0).0, Ok(7));
+}
+
+#[test]
+fn i7_a_long_header_has_seven_bytes() {
+    let (result, buffer) = write(long_header(4, 0x0203, 1), 33);
+    assert_eq!(result, Ok(40));
+    assert_eq!(buffer[33..], [6, 0, 4, 4, 2, 3, 1]);
+    assert_refused(long_header(4, 0x0203, 1), 34, 16);
+    assert_eq!(write(header(4, 0x0203), 34).0, Ok(40));
 }
 
 /// What is written reads back; what is refused would be refused by the reader

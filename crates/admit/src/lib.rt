@@ -2,16 +2,19 @@
 // and what is kept behind it.
 ghost use mathlib.Core.Path.{_≡_};
 ghost use Prim.Native.Nat.{_<_};
-ghost use Rattle.admit.specs.Admitting.{start, placed, countNumber, admitNumber, admitted, admitSays};
+ghost use Rattle.admit.specs.Admitting.{start, beforeOf, placed, countNumber, admitNumber, admitted, admitSays};
 ghost use Rattle.admit.specs.Admitting as Admitting;
+use field::Before;
 use field::Field;
+use field::Form;
 use field::judge::also;
 use field::judge::judge;
+use field::judge::third_of;
 use field::judge::unless;
 use field::number;
 
 // What is kept between two fields. stage 0: a header comes next; 1: previous closes may still come; 2: trades and quotes only. A previous
-// close's instrument is at least instrument, a record's time at least time. count: the fields so far. metal and marks are the header's.
+// close's instrument is at least instrument, a record's time at least time. count: the fields so far. metal, marks and form are the header's.
 pub struct Progress {
     pub stage: u8,
     pub instrument: u16,
@@ -19,6 +22,7 @@ pub struct Progress {
     pub count: u32,
     pub metal: u8,
     pub marks: u16,
+    pub form: Form,
 }
 
 // A field that may come next and what is kept behind it, the right end field, or the number of a refusal.
@@ -39,6 +43,7 @@ pub fn begin() -> Progress
         count: 0,
         metal: 0,
         marks: 0,
+        form: Form::Short,
     }
 }
 
@@ -55,7 +60,11 @@ fn is_placed(p: Progress, field: Field) -> bool
     ensures { λ r. ⌜ r ≡ placed p field ⌝ }
 {
     match field {
-        Field::Header { metal: _, marks: _ } => p.stage == 0,
+        Field::Header {
+            metal: _,
+            marks: _,
+            form: _,
+        } => p.stage == 0,
         Field::PreviousClose {
             instrument,
             price: _,
@@ -83,7 +92,11 @@ fn count_number(p: Progress, field: Field) -> u8
 {
     match field {
         Field::End { count } => unless(count == p.count, number::COUNT, number::FINE),
-        Field::Header { metal: _, marks: _ } => number::FINE,
+        Field::Header {
+            metal: _,
+            marks: _,
+            form: _,
+        } => number::FINE,
         Field::PreviousClose {
             instrument: _,
             price: _,
@@ -104,11 +117,23 @@ fn count_number(p: Progress, field: Field) -> u8
     }
 }
 
+// What came before the next field.
+fn before_of(p: Progress) -> Before
+    ensures { λ r. ⌜ r ≡ beforeOf p ⌝ }
+{
+    let form = p.form;
+    let least = p.time;
+    Before {
+        third: third_of(form),
+        time: least,
+    }
+}
+
 // What a field earns where it stands: 1, 5, the values' number, 12, or FINE.
 fn admit_number(p: Progress, field: Field) -> u8
     ensures { λ r. ⌜ r ≡ admitNumber p field ⌝ }
 {
-    let values = also(judge(p.time, field), count_number(p, field));
+    let values = also(judge(before_of(p), field), count_number(p, field));
     let here = unless(is_placed(p, field), number::PLACE, values);
     unless(p.count < 1_048_576, number::LONG, here)
 }
@@ -118,6 +143,7 @@ pub fn after_previous(p: Progress, instrument: u8) -> Progress
     requires { ⌜ p .count < 1048576 ⌝ }
     ensures { λ r. ⌜ r ≡ Admitting.afterPrevious p instrument ⌝ }
 {
+    let form = p.form;
     Progress {
         stage: 1,
         instrument: instrument as u16 + 1,
@@ -125,6 +151,7 @@ pub fn after_previous(p: Progress, instrument: u8) -> Progress
         count: p.count + 1,
         metal: p.metal,
         marks: p.marks,
+        form,
     }
 }
 
@@ -133,6 +160,7 @@ pub fn after_record(p: Progress, time: u32) -> Progress
     requires { ⌜ p .count < 1048576 ⌝ }
     ensures { λ r. ⌜ r ≡ Admitting.afterRecord p time ⌝ }
 {
+    let form = p.form;
     Progress {
         stage: 2,
         instrument: p.instrument,
@@ -140,13 +168,14 @@ pub fn after_record(p: Progress, time: u32) -> Progress
         count: p.count + 1,
         metal: p.metal,
         marks: p.marks,
+        form,
     }
 }
 
 // What is kept behind the header.
-pub fn after_header(p: Progress, metal: u8, marks: u16) -> Progress
+fn after_header(p: Progress, metal: u8, marks: u16, form: Form) -> Progress
     requires { ⌜ p .count < 1048576 ⌝ }
-    ensures { λ r. ⌜ r ≡ Admitting.afterHeader p metal marks ⌝ }
+    ensures { λ r. ⌜ r ≡ Admitting.afterHeader p metal marks form ⌝ }
 {
     Progress {
         stage: 1,
@@ -155,6 +184,7 @@ pub fn after_header(p: Progress, metal: u8, marks: u16) -> Progress
         count: p.count + 1,
         metal,
         marks,
+        form,
     }
 }
 
@@ -164,7 +194,9 @@ fn taken(p: Progress, field: Field) -> Admitted
     ensures { λ r. ⌜ admitSays r ≡ admitted p field ⌝ }
 {
     match field {
-        Field::Header { metal, marks } => Admitted::Next(after_header(p, metal, marks)),
+        Field::Header { metal, marks, form } => {
+            Admitted::Next(after_header(p, metal, marks, form))
+        }
         Field::PreviousClose {
             instrument,
             price: _,

@@ -16,6 +16,8 @@ use Rattle.bliskoru.proofs.bliskoru_read.Reads as read
 use Rattle.bliskoru.proofs.bliskoru_read.Kinds as readK
 use Rattle.bliskoru.proofs.bliskoru_write_header.Reads as write-header
 use Rattle.bliskoru.proofs.bliskoru_write_header.Kinds as write-headerK
+use Rattle.bliskoru.proofs.bliskoru_write_long_header.Reads as write-long-header
+use Rattle.bliskoru.proofs.bliskoru_write_long_header.Kinds as write-long-headerK
 use Rattle.bliskoru.proofs.bliskoru_write_previous_close.Reads as write-previous-close
 use Rattle.bliskoru.proofs.bliskoru_write_previous_close.Kinds as write-previous-closeK
 use Rattle.bliskoru.proofs.bliskoru_write_trade.Reads as write-trade
@@ -87,6 +89,15 @@ write-header-leaves-once κs a x y s t p q = once (p .1 .0) (q .1 .0)
 
 pub write-header-place-once : Once 2 write-headerK.ps write-headerK.r write-header.Post (λ κs x s. now (s .1 .1 .1 .1 .0))
 write-header-place-once κs a x y s t p q = once (p .1 .1) (q .1 .1)
+
+pub write-long-header-once : Once 2 write-long-headerK.ps write-long-headerK.r write-long-header.Post (λ κs x s. x)
+write-long-header-once κs a x y s t p q = once (p .0) (q .0)
+
+pub write-long-header-leaves-once : Once 2 write-long-headerK.ps write-long-headerK.r write-long-header.Post (λ κs x s. now (s .0))
+write-long-header-leaves-once κs a x y s t p q = once (p .1 .0) (q .1 .0)
+
+pub write-long-header-place-once : Once 2 write-long-headerK.ps write-long-headerK.r write-long-header.Post (λ κs x s. now (s .1 .1 .1 .1 .1 .0))
+write-long-header-place-once κs a x y s t p q = once (p .1 .1) (q .1 .1)
 
 pub write-previous-close-once : Once 2 write-previous-closeK.ps write-previous-closeK.r write-previous-close.Post (λ κs x s. x)
 write-previous-close-once κs a x y s t p q = once (p .0) (q .0)

@@ -6,6 +6,8 @@ use lib.IntN.{ℤ, pos}
 use Rattle.field.specs.declared.Price.{Price}
 use Rattle.field.specs.declared.Field.{Field}
 use Rattle.field.specs.declared.Field.the-variants.{Header, PreviousClose, Trade, Quote, End}
+use Rattle.field.specs.Judging.{thirdOf}
+use Rattle.field.specs.Layout.{formTag}
 use Rattle.field.specs.Said.{Said, gives, refuses}
 use Rattle.sheet.specs.Judgement.{Verdict, accepts, refuses-at}
 use Rattle.price_rules.specs.declared.Method.{Method}
@@ -73,10 +75,10 @@ abbrev pub filledPlace : ℕ → Filled → ℕ
 filledPlace old (Filled.Whole length) = old
 filledPlace old (Filled.Refused number place) = place
 
--- ---- one field: its tag, its values in the order of its body, and zeros up to six numbers
+-- ---- one field: its tag, its values in the order of its body, and zeros up to six numbers; a short header has no third value, and so a zero there
 
 abbrev pub valuesOf : Field → List ℤ
-valuesOf (Header metal marks) = pos 1 ∷ pos metal ∷ pos marks ∷ pos 0 ∷ pos 0 ∷ pos 0 ∷ []
+valuesOf (Header metal marks form) = pos (formTag form) ∷ pos metal ∷ pos marks ∷ pos (thirdOf form) ∷ pos 0 ∷ pos 0 ∷ []
 valuesOf (PreviousClose instrument price) = pos 2 ∷ pos instrument ∷ price .cents ∷ pos 0 ∷ pos 0 ∷ pos 0 ∷ []
 valuesOf (Trade time instrument price lots) = pos 3 ∷ pos time ∷ pos instrument ∷ price .cents ∷ pos lots ∷ pos 0 ∷ []
 valuesOf (Quote time instrument sides bid offer) = pos 4 ∷ pos time ∷ pos instrument ∷ pos sides ∷ bid .cents ∷ offer .cents ∷ []

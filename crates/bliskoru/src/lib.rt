@@ -8,6 +8,7 @@ ghost use Rattle.text.specs.Over.{putPlace, putBuffer};
 ghost use Rattle.field.specs.Reading.{readField};
 ghost use Rattle.field.specs.Writing.{written, bufferAfter};
 ghost use Rattle.field.specs.declared.Field.the-variants as F;
+ghost use Rattle.field.specs.declared.Form.the-variants as Form;
 ghost use Rattle.sheet.specs.Judgement.{judgeSheet};
 ghost use Rattle.price_rules.specs.Closing.{answersOf};
 ghost use Rattle.price_rules.specs.Says.{answerSays, closingsSay};
@@ -16,9 +17,12 @@ ghost use Rattle.tape.specs.Tape.{tapeToSheet, sheetToTape, bufferWith, filled}
 ghost use Rattle.bliskoru.specs.Host.{filledNumber, filledLength, filledPlace, lengthOr0, verdictNumber, verdictByte, methodNumber, rowOf, rowsOf, answersNumber, answersByte, answersRows, valuesOf, saidNumber, saidNext, readValues, priceOf};
 ghost use Rattle.bliskoru.specs.laws.Host.{rowSays};
 use field::Field;
+use field::Form;
 use field::Price;
 use field::Read;
 use field::Written;
+use field::judge::third_of;
+use field::layout::form_tag;
 use field_reader::read_field;
 use field_writer::write_field;
 use list::closing_list;
@@ -252,12 +256,12 @@ fn values_of(field: Field) -> [i64; 6]
 {
     let none = zero();
     match field {
-        Field::Header { metal, marks } => {
+        Field::Header { metal, marks, form } => {
             listed(
-                1,
+                form_tag(form) as u32,
                 whole(metal as u32),
                 whole(marks as u32),
-                none,
+                whole(third_of(form) as u32),
                 none,
                 none,
             )
@@ -333,7 +337,7 @@ fn write(buffer: &mut [u8], at: usize, field: Field, next: &mut usize) -> u8
     }
 }
 
-// Each of the five writes one field at a place: 0 and the place behind it; or the refusal's number, and buffer and place as they were.
+// Each of the six writes one field at a place: 0 and the place behind it; or the refusal's number, and buffer and place as they were.
 #[no_mangle]
 pub extern "C" fn bliskoru_write_header(
     buffer: &mut [u8],
@@ -342,11 +346,29 @@ pub extern "C" fn bliskoru_write_header(
     marks: u16,
     next: &mut usize,
 ) -> u8
-    ensures { λ r. ⌜ r ≡ saidNumber (written (now (buffer .entry)) at (F.Header metal marks)) ⌝ }
-    ensures { λ _. ⌜ now (buffer .exit) ≡ bufferAfter (now (buffer .entry)) at (F.Header metal marks) ⌝ }
-    ensures { λ _. ⌜ now (next .exit) ≡ saidNext (now (next .entry)) (written (now (buffer .entry)) at (F.Header metal marks)) ⌝ }
+    ensures { λ r. ⌜ r ≡ saidNumber (written (now (buffer .entry)) at (F.Header metal marks Form.Short)) ⌝ }
+    ensures { λ _. ⌜ now (buffer .exit) ≡ bufferAfter (now (buffer .entry)) at (F.Header metal marks Form.Short) ⌝ }
+    ensures { λ _. ⌜ now (next .exit) ≡ saidNext (now (next .entry)) (written (now (buffer .entry)) at (F.Header metal marks Form.Short)) ⌝ }
 {
-    write(buffer, at, Field::Header { metal, marks }, next)
+    let form = Form::Short;
+    write(buffer, at, Field::Header { metal, marks, form }, next)
+}
+
+#[no_mangle]
+pub extern "C" fn bliskoru_write_long_header(
+    buffer: &mut [u8],
+    at: usize,
+    metal: u8,
+    marks: u16,
+    third: u8,
+    next: &mut usize,
+) -> u8
+    ensures { λ r. ⌜ r ≡ saidNumber (written (now (buffer .entry)) at (F.Header metal marks (Form.Long third))) ⌝ }
+    ensures { λ _. ⌜ now (buffer .exit) ≡ bufferAfter (now (buffer .entry)) at (F.Header metal marks (Form.Long third)) ⌝ }
+    ensures { λ _. ⌜ now (next .exit) ≡ saidNext (now (next .entry)) (written (now (buffer .entry)) at (F.Header metal marks (Form.Long third))) ⌝ }
+{
+    let form = Form::Long(third);
+    write(buffer, at, Field::Header { metal, marks, form }, next)
 }
 
 #[no_mangle]

@@ -14,6 +14,7 @@ use market::MINIMUM_LOTS;
 use market::WINDOW;
 use market::contract_by;
 use market::is_marked;
+use market::is_named;
 use market::leg_of;
 use market::start_of;
 use market::step_by;
@@ -85,7 +86,7 @@ fn rounded(mean: Mean, lots: u64, step: u32) -> Answer
     }
 }
 
-// One contract, by its row and the closes before it.
+// One contract, by its row and the closes before it: whatever the third value.
 fn answer_by_row(
     sheet: &[u8],
     metal: u8,
@@ -98,7 +99,7 @@ fn answer_by_row(
     c: usize,
 ) -> Answer
     requires { ⌜ Lent (now sheet) metal marks (now rows) (now legs) (now lots) (now values) × Bounded (now closes) × (c < 6) ⌝ }
-    ensures { λ r. ⌜ answerSays r ≡ rowAnswer (figuresOf metal marks (fieldsOf (now (sheet .entry)))) (now (closes .entry)) c ⌝ }
+    ensures { λ r. ⌜ answerSays r ≡ rowAnswer (figuresOf metal marks 0 (fieldsOf (now (sheet .entry)))) (now (closes .entry)) c ⌝ }
 {
     let row = contract_by(rows[c]);
     let s = vwap_sum(
@@ -114,24 +115,29 @@ fn answer_by_row(
     rounded(mean, s.lots, step_by(metal, row.step))
 }
 
-// The answer of a contract, with what is known before it. The tables, the totals and the closes are lent: copies cost more than the pricing.
+// The answer of a contract, with what is known before it: where 3M is that contract, 3M's. The tables, the totals and the closes are lent: copies cost more than the pricing.
 pub fn price_one(
     sheet: &[u8],
     metal: u8,
     marks: u16,
+    third: u8,
     rows: &[[u8; 4]; 6],
     legs: &[[u8; 2]; 12],
     lots: &[u64; 12],
     values: &[i64; 12],
     closes: &[u32],
     stopped: bool,
+    three: Answer,
     c: usize,
 ) -> Answer
     requires { ⌜ Lent (now sheet) metal marks (now rows) (now legs) (now lots) (now values) × Bounded (now closes) × (c < 6) ⌝ }
-    ensures { λ r. ⌜ answerSays r ≡ answerBy (figuresOf metal marks (fieldsOf (now (sheet .entry)))) (record { closes = now (closes .entry); stopped = stopped }) c ⌝ }
+    ensures { λ r. ⌜ answerSays r ≡ answerBy (figuresOf metal marks third (fieldsOf (now (sheet .entry)))) (record { closes = now (closes .entry); stopped = stopped; three = answerSays three }) c ⌝ }
 {
     if stopped {
         return Answer::NotReached;
+    }
+    if is_named(third, c) {
+        return three;
     }
     answer_by_row(sheet, metal, marks, rows, legs, lots, values, closes, c)
 }

@@ -31,6 +31,14 @@ use Rattle.field.proofs.layout.remaining.Reads as remaining
 use Rattle.field.proofs.layout.remaining.Kinds as remainingK
 use Rattle.field.proofs.layout.stands.Reads as stands
 use Rattle.field.proofs.layout.stands.Kinds as standsK
+use Rattle.field.proofs.judge.third_of.Reads as third-of
+use Rattle.field.proofs.judge.third_of.Kinds as third-ofK
+use Rattle.field.proofs.judge.by_itself.Reads as by-itself
+use Rattle.field.proofs.judge.by_itself.Kinds as by-itselfK
+use Rattle.field.proofs.judge.is_allowed.Reads as is-allowed
+use Rattle.field.proofs.judge.is_allowed.Kinds as is-allowedK
+use Rattle.field.proofs.layout.form_tag.Reads as form-tag
+use Rattle.field.proofs.layout.form_tag.Kinds as form-tagK
 
 pub unless-once : Once 0 unlessK.ps unlessK.r unless.Post (λ κs x s. x)
 unless-once κs a x y s t p q = once p q
@@ -76,3 +84,15 @@ remaining-once κs a x y s t p q = once p q
 
 pub stands-once : Once 1 standsK.ps standsK.r stands.Post (λ κs x s. x)
 stands-once κs a x y s t p q = once p q
+
+pub third-of-once : Once 0 third-ofK.ps third-ofK.r third-of.Post (λ κs x s. x)
+third-of-once κs a x y s t p q = once p q
+
+pub by-itself-once : Once 0 by-itselfK.ps by-itselfK.r by-itself.Post (λ κs x s. x)
+by-itself-once κs a x y s t p q = once p q
+
+pub is-allowed-once : Once 0 is-allowedK.ps is-allowedK.r is-allowed.Post (λ κs x s. x)
+is-allowed-once κs a x y s t p q = once p q
+
+pub form-tag-once : Once 0 form-tagK.ps form-tagK.r form-tag.Post (λ κs x s. x)
+form-tag-once κs a x y s t p q = once p q

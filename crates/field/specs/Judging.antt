@@ -1,10 +1,14 @@
--- SHEET 3, the ranges of the values, and 6 to 11 of SHEET 4: the first number that the values of one field earn, in the order of SHEET 5.
+-- SHEET 3, the ranges of the values, and 6 to 11 and 18 of SHEET 4: the first number that the values of one field earn, in the order of SHEET 5.
 use Prim.Native.Nat.{ℕ, _/_, _%_}
-use mathlib.Core.Bool.{Bool, true, _&&_, cond}
+use mathlib.Core.Bool.{Bool, true, _&&_, not, cond}
 use lib.Dec.{leb, eqb}
 use lib.IntN.{ℤ, pos, negℤ}
 use lib.Signed.{leZ}
+use Rattle.market.specs.Market.{barred}
 use Rattle.field.specs.declared.Price.{Price}
+use Rattle.field.specs.declared.Form.{Form}
+use Rattle.field.specs.declared.Form.the-variants.{Short, Long}
+use Rattle.field.specs.declared.Before.{Before}
 use Rattle.field.specs.declared.Field.{Field}
 use Rattle.field.specs.declared.Field.the-variants.{Header, PreviousClose, Trade, Quote, End}
 
@@ -40,13 +44,26 @@ within low high n = both (leb low n) (leb n high)
 abbrev pub centsWithin : ℤ → ℤ → Price → Bool
 centsWithin low high price = both (leZ low (price .cents)) (leZ (price .cents) high)
 
--- SHEET 3, metal and marks: metals 1 to 5, marks up to bit 10
-abbrev pub headerRight : ℕ → ℕ → Bool
-headerRight metal marks = both (within 1 5 metal) (leb marks 2047)
+-- SHEET 3, the third value of a header: a short one has none, and prices as 0
+abbrev pub thirdOf : Form → ℕ
+thirdOf Short = 0
+thirdOf (Long third) = third
+
+-- SHEET 3, metal, marks and third value: metals 1 to 5, marks up to bit 10, third values up to 2
+abbrev pub headerRight : ℕ → ℕ → ℕ → Bool
+headerRight metal marks third = both (within 1 5 metal) (both (leb marks 2047) (leb third 2))
+
+-- before a field that is judged by itself: no third value, no time
+abbrev pub alone : Before
+alone = record { third = 0; time = 0 }
 
 -- SHEET 3, instrument: 0 to 11
 abbrev pub instrumentRight : ℕ → Bool
 instrumentRight instrument = leb instrument 11
+
+-- SHEET 3, third value: it bars no field on this instrument
+abbrev pub allowed : ℕ → ℕ → Bool
+allowed third instrument = not (barred third instrument)
 
 -- SHEET 3, time: 0 to 86,399,999, and not below the time before
 abbrev pub timeRight : ℕ → ℕ → Bool
@@ -87,21 +104,26 @@ sidePricesRight instrument sides bid offer =
 abbrev pub ordered : ℕ → Price → Price → Bool
 ordered sides bid offer = ifPresent (both (hasBid sides) (hasOffer sides)) (leZ (bid .cents) (offer .cents))
 
--- a record's instrument and time, 7 and 8, before the rest of it
-abbrev pub stamped : ℕ → ℕ → ℕ → ℕ → ℕ
-stamped least time instrument rest = unless (instrumentRight instrument) 7 (unless (timeRight least time) 8 rest)
+-- a field's instrument, 7 and 18, before the rest of it
+abbrev pub onInstrument : Before → ℕ → ℕ → ℕ
+onInstrument before instrument rest = unless (instrumentRight instrument) 7 (unless (allowed (before .third) instrument) 18 rest)
 
--- SHEET 5: the field's values in the order of the numbers; in a quote the sides (11) come before the prices (9), and the bid above the offer (11) last
-unfoldable pub judge : ℕ → Field → ℕ
-judge least (Header metal marks) = unless (headerRight metal marks) 6 fine
-judge least (PreviousClose instrument price) = unless (instrumentRight instrument) 7 (unless (priceRight instrument price) 9 fine)
-judge least (Trade time instrument price lots) =
-    stamped least time instrument
+-- a record's instrument and time, 7, 18 and 8, before the rest of it
+abbrev pub stamped : Before → ℕ → ℕ → ℕ → ℕ
+stamped before time instrument rest = onInstrument before instrument (unless (timeRight (before .time) time) 8 rest)
+
+-- SHEET 5: the field's values in the order of the numbers, with 18 behind 7; in a quote the sides (11) come before the prices (9), and the bid above the
+-- offer (11) last
+unfoldable pub judge : Before → Field → ℕ
+judge before (Header metal marks form) = unless (headerRight metal marks (thirdOf form)) 6 fine
+judge before (PreviousClose instrument price) = onInstrument before instrument (unless (priceRight instrument price) 9 fine)
+judge before (Trade time instrument price lots) =
+    stamped before time instrument
     (unless (priceRight instrument price) 9
     (unless (lotsRight lots) 10 fine))
-judge least (Quote time instrument sides bid offer) =
-    stamped least time instrument
+judge before (Quote time instrument sides bid offer) =
+    stamped before time instrument
     (unless (sidesRight sides bid offer) 11
     (unless (sidePricesRight instrument sides bid offer) 9
     (unless (ordered sides bid offer) 11 fine)))
-judge least (End count) = fine
+judge before (End count) = fine

@@ -5,7 +5,7 @@ use lib.Dec.{leb, eqb}
 use lib.ListN.{length, getD, take, drop}
 use Rattle.wire.specs.Big.{be2At}
 use Rattle.field.specs.declared.Field.{Field}
-use Rattle.field.specs.Judging.{fine, unless, judge}
+use Rattle.field.specs.Judging.{fine, unless, alone, judge}
 use Rattle.field.specs.Layout.{tagRight, lengthOf, sizeOf, fieldOf}
 use Rattle.field.specs.Said.{Said, gives, refuses, settled}
 
@@ -34,9 +34,9 @@ shapeBy s at tag = settled (headNumber s at tag) at (fieldOf tag (bodyAt s at ta
 unfoldable pub shapeAt : List ℕ → ℕ → Said Field
 shapeAt s at = shapeBy s at (getD s at 0)
 
--- then its values, with no time before it
+-- then its values, by themselves
 abbrev pub judged : ℕ → Said Field → Said Field
-judged at (gives f next) = settled (judge 0 f) at f next
+judged at (gives f next) = settled (judge alone f) at f next
 judged at (refuses number place) = refuses number place
 
 unfoldable pub readField : List ℕ → ℕ → Said Field

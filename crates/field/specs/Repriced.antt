@@ -12,7 +12,7 @@ use Rattle.field.specs.Judging.{hasBid, hasOffer}
 
 -- the field is of instrument i
 abbrev pub concerns : ℕ → Field → Bool
-concerns i (Header metal marks) = false
+concerns i (Header metal marks form) = false
 concerns i (PreviousClose instrument price) = eqb instrument i
 concerns i (Trade time instrument price lots) = eqb instrument i
 concerns i (Quote time instrument sides bid offer) = eqb instrument i
@@ -30,7 +30,7 @@ pub record Sides : Type 0 where
 
 -- the prices of closes and trades by m, and a quote's sides by q
 abbrev pub repriced : (Price → Price) → (ℕ → Price → Price → Sides) → Field → Field
-repriced m q (Header metal marks) = Header metal marks
+repriced m q (Header metal marks form) = Header metal marks form
 repriced m q (PreviousClose instrument price) = PreviousClose instrument (m price)
 repriced m q (Trade time instrument price lots) = Trade time instrument (m price) lots
 repriced m q (Quote time instrument sides bid offer) = Quote time instrument (q sides bid offer .sides) (q sides bid offer .bid) (q sides bid offer .offer)

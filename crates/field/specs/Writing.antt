@@ -5,7 +5,7 @@ use mathlib.Core.List.{List, _++_}
 use lib.Dec.{leb, eqb}
 use lib.ListN.{length, take, drop}
 use Rattle.field.specs.declared.Field.{Field}
-use Rattle.field.specs.Judging.{fine, unless, also, judge}
+use Rattle.field.specs.Judging.{fine, unless, also, alone, judge}
 use Rattle.field.specs.Layout.{tagOf, sizeOf, fieldBytes}
 use Rattle.field.specs.Said.{Said, settled}
 
@@ -13,9 +13,9 @@ use Rattle.field.specs.Said.{Said, settled}
 abbrev pub fieldSize : Field → ℕ
 fieldSize f = sizeOf (tagOf f)
 
--- first the values, 6 to 11, with no time before; then the room, 16: len - at bytes are behind the place, none where it is past the buffer
+-- first the values by themselves, 6 to 11; then the room, 16: len - at bytes are behind the place, none where it is past the buffer
 unfoldable pub writeNumber : ℕ → ℕ → Field → ℕ
-writeNumber len at f = also (judge 0 f) (unless (leb (fieldSize f) (len - at)) 16 fine)
+writeNumber len at f = also (judge alone f) (unless (leb (fieldSize f) (len - at)) 16 fine)
 
 -- the place behind the field; a refusal gives the place as it was
 unfoldable pub written : List ℕ → ℕ → Field → Said (Unit {0})

@@ -2,13 +2,16 @@
 ghost use mathlib.Core.Path.{_≡_};
 ghost use lib.IntN.{pos};
 ghost use lib.Signed.{leZ};
-ghost use Rattle.field.specs.Judging.{within, centsWithin, ifPresent, ifAbsent, headerRight, timeRight, priceRight, hasBid, hasOffer, sidesRight, sidePricesRight, ordered, stamped};
+ghost use Rattle.field.specs.Judging.{within, centsWithin, ifPresent, ifAbsent, thirdOf, headerRight, allowed, timeRight, priceRight, hasBid, hasOffer, sidesRight, sidePricesRight, ordered, onInstrument, stamped, alone};
 ghost use Rattle.field.specs.Judging as Judging;
 ghost use Rattle.field.specs.laws.Ends.{lowestPrice, highestPrice, bothSidesRight};
 ghost use Rattle.field.specs.declared.Field.the-variants as F;
+use crate::Before;
 use crate::Field;
+use crate::Form;
 use crate::Price;
 use crate::number;
+use market::is_barred;
 
 // The number of a test that fails; where it holds the rest decides.
 pub fn unless(test: bool, number: u8, rest: u8) -> u8
@@ -50,10 +53,37 @@ fn cents_within(low: i32, high: i32, price: Price) -> bool
     both(low <= cents, cents <= high)
 }
 
-fn header_right(metal: u8, marks: u16) -> bool
-    ensures { λ r. ⌜ r ≡ headerRight metal marks ⌝ }
+// The third value of a header; a short one has 0.
+pub fn third_of(form: Form) -> u8
+    ensures { λ r. ⌜ r ≡ thirdOf form ⌝ }
 {
-    both(is_within(1, 5, metal as u32), marks <= 2047)
+    match form {
+        Form::Short => 0,
+        Form::Long(third) => third,
+    }
+}
+
+fn header_right(metal: u8, marks: u16, third: u8) -> bool
+    ensures { λ r. ⌜ r ≡ headerRight metal marks third ⌝ }
+{
+    both(
+        is_within(1, 5, metal as u32),
+        both(marks <= 2047, third <= 2),
+    )
+}
+
+// No field stands before a field that is judged by itself.
+pub fn by_itself() -> Before
+    ensures { λ r. ⌜ r ≡ alone ⌝ }
+{
+    Before { third: 0, time: 0 }
+}
+
+// The header's third value lets a field be on the instrument.
+pub fn is_allowed(third: u8, instrument: u8) -> bool
+    ensures { λ r. ⌜ r ≡ allowed third instrument ⌝ }
+{
+    !is_barred(third, instrument)
 }
 
 fn time_right(least: u32, time: u32) -> bool
@@ -152,36 +182,45 @@ fn in_order(sides: u8, bid: Price, offer: Price) -> bool
     )
 }
 
-// A record's instrument and time, before the rest of it.
-fn stamp(least: u32, time: u32, instrument: u8, rest: u8) -> u8
-    ensures { λ r. ⌜ r ≡ stamped least time instrument rest ⌝ }
+// An instrument, before the rest of its field.
+fn on_instrument(before: Before, instrument: u8, rest: u8) -> u8
+    ensures { λ r. ⌜ r ≡ onInstrument before instrument rest ⌝ }
 {
     unless(
         instrument <= 11,
         number::INSTRUMENT,
-        unless(time_right(least, time), number::TIME, rest),
+        unless(is_allowed(before.third, instrument), number::BARRED, rest),
     )
+}
+
+// A record's instrument and time, before the rest of it.
+fn stamp(before: Before, time: u32, instrument: u8, rest: u8) -> u8
+    ensures { λ r. ⌜ r ≡ stamped before time instrument rest ⌝ }
+{
+    let timely = unless(time_right(before.time, time), number::TIME, rest);
+    on_instrument(before, instrument, timely)
 }
 
 // A field's values, for callers that have them as numbers: a header's, a previous close's, a trade's and a quote's.
-pub fn judge_header(metal: u8, marks: u16) -> u8
-    ensures { λ r. ⌜ r ≡ Judging.judge 0 (F.Header metal marks) ⌝ }
-{
-    unless(header_right(metal, marks), number::METAL, number::FINE)
-}
-
-pub fn judge_previous(instrument: u8, price: Price) -> u8
-    ensures { λ r. ⌜ r ≡ Judging.judge 0 (F.PreviousClose instrument price) ⌝ }
+pub fn judge_header(metal: u8, marks: u16, form: Form) -> u8
+    ensures { λ r. ⌜ r ≡ Judging.judge alone (F.Header metal marks form) ⌝ }
 {
     unless(
-        instrument <= 11,
-        number::INSTRUMENT,
-        unless(price_right(instrument, price), number::PRICE, number::FINE),
+        header_right(metal, marks, third_of(form)),
+        number::METAL,
+        number::FINE,
     )
 }
 
-pub fn judge_trade(least: u32, time: u32, instrument: u8, price: Price, lots: u16) -> u8
-    ensures { λ r. ⌜ r ≡ Judging.judge least (F.Trade time instrument price lots) ⌝ }
+pub fn judge_previous(before: Before, instrument: u8, price: Price) -> u8
+    ensures { λ r. ⌜ r ≡ Judging.judge before (F.PreviousClose instrument price) ⌝ }
+{
+    let rest = unless(price_right(instrument, price), number::PRICE, number::FINE);
+    on_instrument(before, instrument, rest)
+}
+
+pub fn judge_trade(before: Before, time: u32, instrument: u8, price: Price, lots: u16) -> u8
+    ensures { λ r. ⌜ r ≡ Judging.judge before (F.Trade time instrument price lots) ⌝ }
 {
     let rest = unless(
         price_right(instrument, price),
@@ -192,11 +231,18 @@ pub fn judge_trade(least: u32, time: u32, instrument: u8, price: Price, lots: u1
             number::FINE,
         ),
     );
-    stamp(least, time, instrument, rest)
+    stamp(before, time, instrument, rest)
 }
 
-pub fn judge_quote(least: u32, time: u32, instrument: u8, sides: u8, bid: Price, offer: Price) -> u8
-    ensures { λ r. ⌜ r ≡ Judging.judge least (F.Quote time instrument sides bid offer) ⌝ }
+pub fn judge_quote(
+    before: Before,
+    time: u32,
+    instrument: u8,
+    sides: u8,
+    bid: Price,
+    offer: Price,
+) -> u8
+    ensures { λ r. ⌜ r ≡ Judging.judge before (F.Quote time instrument sides bid offer) ⌝ }
 {
     let prices = unless(
         side_prices_right(instrument, sides, bid, offer),
@@ -204,7 +250,7 @@ pub fn judge_quote(least: u32, time: u32, instrument: u8, sides: u8, bid: Price,
         unless(in_order(sides, bid, offer), number::SIDES, number::FINE),
     );
     let rest = unless(sides_right(sides, bid, offer), number::SIDES, prices);
-    stamp(least, time, instrument, rest)
+    stamp(before, time, instrument, rest)
 }
 
 // Whether a quote with both sides is right, its time put aside: where the bid is not above the offer, each end is asked of one side alone.
@@ -218,26 +264,26 @@ pub fn both_sides_right(instrument: u8, bid: Price, offer: Price) -> bool
     )
 }
 
-// The first number that a field's values earn where times must not be below least, or FINE.
-pub fn judge(least: u32, field: Field) -> u8
-    ensures { λ r. ⌜ r ≡ Judging.judge least field ⌝ }
+// The first number that a field's values earn behind what came before, or FINE.
+pub fn judge(before: Before, field: Field) -> u8
+    ensures { λ r. ⌜ r ≡ Judging.judge before field ⌝ }
 {
     match field {
-        Field::Header { metal, marks } => judge_header(metal, marks),
-        Field::PreviousClose { instrument, price } => judge_previous(instrument, price),
+        Field::Header { metal, marks, form } => judge_header(metal, marks, form),
+        Field::PreviousClose { instrument, price } => judge_previous(before, instrument, price),
         Field::Trade {
             time,
             instrument,
             price,
             lots,
-        } => judge_trade(least, time, instrument, price, lots),
+        } => judge_trade(before, time, instrument, price, lots),
         Field::Quote {
             time,
             instrument,
             sides,
             bid,
             offer,
-        } => judge_quote(least, time, instrument, sides, bid, offer),
+        } => judge_quote(before, time, instrument, sides, bid, offer),
         Field::End { count: _ } => number::FINE,
     }
 }

@@ -1,9 +1,10 @@
 // A field's tag, its body's length and its size: the table of tags of SHEET 1.
 ghost use mathlib.Core.Path.{_≡_};
 ghost use Prim.Native.Nat.{_-_};
-ghost use Rattle.field.specs.Layout.{tagRight, lengthOf, sizeOf, tagOf};
+ghost use Rattle.field.specs.Layout.{tagRight, lengthOf, sizeOf, formTag, tagOf};
 ghost use Rattle.field.specs.laws.Standing as Standing;
 use crate::Field;
+use crate::Form;
 use crate::judge::is_within;
 use wire::join2;
 
@@ -18,21 +19,23 @@ pub const QUOTE: u8 = 4;
 
 pub const END: u8 = 5;
 
-// The lengths of the bodies, by tag; no tag is 0.
-const LENGTHS: [u16; 6] = [0, 3, 5, 11, 14, 4];
+pub const LONG_HEADER: u8 = 6;
 
-// Tags 1 to 5.
+// The lengths of the bodies, by tag; no tag is 0.
+const LENGTHS: [u16; 7] = [0, 3, 5, 11, 14, 4, 4];
+
+// Tags 1 to 6.
 pub fn tag_right(tag: u8) -> bool
     ensures { λ r. ⌜ r ≡ tagRight tag ⌝ }
 {
-    is_within(1, 5, tag as u32)
+    is_within(1, 6, tag as u32)
 }
 
 // The length of a tag's body; 0 where there is no such tag.
 pub fn length_of(tag: u8) -> u16
     ensures { λ r. ⌜ r ≡ lengthOf tag ⌝ }
 {
-    if tag <= 5 { LENGTHS[tag as usize] } else { 0 }
+    if tag <= 6 { LENGTHS[tag as usize] } else { 0 }
 }
 
 // How many bytes a tag's head and body are.
@@ -42,12 +45,26 @@ pub fn size_of(tag: u8) -> usize
     3 + length_of(tag) as usize
 }
 
+// The tag of a header of this form.
+pub fn form_tag(form: Form) -> u8
+    ensures { λ r. ⌜ r ≡ formTag form ⌝ }
+{
+    match form {
+        Form::Short => 1,
+        Form::Long(_) => 6,
+    }
+}
+
 // A field's tag.
 pub fn tag_of(field: Field) -> u8
     ensures { λ r. ⌜ r ≡ tagOf field ⌝ }
 {
     match field {
-        Field::Header { metal: _, marks: _ } => 1,
+        Field::Header {
+            metal: _,
+            marks: _,
+            form,
+        } => form_tag(form),
         Field::PreviousClose {
             instrument: _,
             price: _,

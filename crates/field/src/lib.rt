@@ -1,4 +1,4 @@
-// The five fields of a day sheet: their values, the numbers of SHEET 4, and what the ranges of SHEET 3 say of one field. Hosts don't call it.
+// The fields of a day sheet: their values, the numbers of SHEET 4, and what the ranges of SHEET 3 say of one field. Hosts don't call it.
 pub mod judge;
 pub mod layout;
 pub mod number;
@@ -8,11 +8,25 @@ pub struct Price {
     pub cents: i32,
 }
 
+// Which of its two forms a header has: short (tag 1), or long (tag 6) with a third value, which says what 3M is: no monthly contract (0), M3 (1) or
+// M4 (2).
+pub enum Form {
+    Short,
+    Long(u8),
+}
+
+// What the fields before it say of a field: the header's third value, which bars instruments, and the time that it must not be below.
+pub struct Before {
+    pub third: u8,
+    pub time: u32,
+}
+
 // The values of a field, each at its full width: what is out of its range is a value too, and is judged as one.
 pub enum Field {
     Header {
         metal: u8,
         marks: u16,
+        form: Form,
     },
     PreviousClose {
         instrument: u8,

@@ -6,13 +6,13 @@ pub const FINE: u8 = 0;
 pub const LONG: u8 = 1;
 // Bytes of the field are missing, or the end field is.
 pub const BYTES: u8 = 2;
-// No tag from 1 to 5.
+// No tag from 1 to 6.
 pub const TAG: u8 = 3;
 // Another length than the tag has.
 pub const LENGTH: u8 = 4;
 // A field out of its place, or bytes behind the end.
 pub const PLACE: u8 = 5;
-// No metal from 1 to 5, or a mark that no spread has.
+// No metal from 1 to 5, a mark that no spread has, or a third value above 2.
 pub const METAL: u8 = 6;
 // No instrument from 0 to 11.
 pub const INSTRUMENT: u8 = 7;
@@ -30,3 +30,5 @@ pub const COUNT: u8 = 12;
 pub const ROOM: u8 = 16;
 // A line of a text that is malformed, or names what there is not.
 pub const LINE: u8 = 17;
+// An instrument that the header's third value bars.
+pub const BARRED: u8 = 18;

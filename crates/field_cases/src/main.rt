@@ -3,6 +3,7 @@
 ghost use mathlib.Core.Path.{_≡_};
 ghost use lib.ListN.{length};
 use field::Field;
+use field::Form;
 use field::Price;
 use field::Read;
 use field::Written;
@@ -113,7 +114,11 @@ fn zeros() -> [u8; 1048583]
 fn far() {
     let mut long = zeros();
     say(b"# A4, E4 a field from byte 1,048,577 on is written, and read");
-    let header = Field::Header { metal: 5, marks: 0 };
+    let header = Field::Header {
+        metal: 5,
+        marks: 0,
+        form: Form::Short,
+    };
     let written = write_field(&mut long, 1_048_577, header);
     print_written(written);
     say(b"");
@@ -125,6 +130,7 @@ fn writes() {
     let header = Field::Header {
         metal: 1,
         marks: 515,
+        form: Form::Short,
     };
     say(b"# E2 a field that ends at the buffer's end fits, and one place on it does not");
     show_write(2, header);
@@ -134,7 +140,11 @@ fn writes() {
     show_write(9, header);
     show_write(18_446_744_073_709_551_615, header);
     say(b"# E1 a bad value where there is no room: its own number");
-    let nine = Field::Header { metal: 9, marks: 0 };
+    let nine = Field::Header {
+        metal: 9,
+        marks: 0,
+        form: Form::Short,
+    };
     show_write(18_446_744_073_709_551_615, nine);
     say(b"# E3 an absent side that is not zero is not made zero");
     let quote = Field::Quote {
@@ -205,8 +215,64 @@ fn other_walks() {
     say(b"# A12 a whole field that is refused, and a tag that is none");
     let nine = [1u8, 0, 3, 9, 0, 0];
     show_walk(&nine, 0, 2);
-    let six = [6u8, 0, 3, 1, 0, 0];
-    show_walk(&six, 0, 2);
+    let seven = [7u8, 0, 3, 1, 0, 0];
+    show_walk(&seven, 0, 2);
+}
+
+// The long header, which has its own tag and length; and a trade on an instrument that it bars, which is read by itself.
+fn long_headers() {
+    let good = [6u8, 0, 4, 1, 0, 0, 1];
+    say(b"# I7 a long header is read");
+    show_read(&good, 0);
+    say(b"# I6 a byte of 3 is refused, read and written");
+    let bad = [6u8, 0, 4, 1, 0, 0, 3];
+    show_read(&bad, 0);
+    let three = Field::Header {
+        metal: 1,
+        marks: 0,
+        form: Form::Long(3),
+    };
+    show_write(0, three);
+    say(b"# I7 a long header at the buffer's end, and one place on");
+    let marked = Field::Header {
+        metal: 1,
+        marks: 515,
+        form: Form::Long(2),
+    };
+    show_write(1, marked);
+    show_write(2, marked);
+    say(b"# I4 a trade on an instrument that its header bars is read by itself");
+    let barred = [
+        6u8,
+        0,
+        4,
+        1,
+        0,
+        0,
+        1,
+        3,
+        0,
+        11,
+        0,
+        0,
+        0,
+        0,
+        1,
+        0,
+        0,
+        0,
+        0,
+        0,
+        1,
+        5,
+        0,
+        4,
+        0,
+        0,
+        0,
+        2,
+    ];
+    show_walk(&barred, 0, 4);
 }
 
 fn main() {
@@ -215,4 +281,5 @@ fn main() {
     writes();
     nickel_walks();
     other_walks();
+    long_headers();
 }

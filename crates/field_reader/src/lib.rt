@@ -3,14 +3,16 @@ ghost use mathlib.Core.Path.{_≡_};
 ghost use lib.ListN.{length, getD};
 ghost use Rattle.field.specs.declared.Field.the-variants as F;
 ghost use Rattle.field.specs.Judging as Judging;
-ghost use Rattle.field.specs.Layout.{headerOf, previousOf, tradeOf, quoteOf};
+ghost use Rattle.field.specs.Judging.{alone};
+ghost use Rattle.field.specs.Layout.{previousOf, tradeOf, quoteOf};
 ghost use Rattle.field.specs.Said.{readSays, settled};
 ghost use Rattle.field.specs.Reading.{taggedNumber, headNumber, shapeAt, readField, bodyOf};
 ghost use Rattle.field_reader.specs.laws.Heads.{Heads};
 use field::Field;
 use field::Price;
 use field::Read;
-use field::judge::judge_header;
+use field::judge::by_itself;
+use field::judge::judge;
 use field::judge::judge_previous;
 use field::judge::judge_quote;
 use field::judge::judge_trade;
@@ -21,7 +23,6 @@ use field::layout::remaining;
 use field::layout::size_of;
 use field::layout::tag_right;
 use field::number;
-use raw_reader::end_of;
 use raw_reader::field_of;
 use raw_reader::price_at;
 use wire::join2;
@@ -74,36 +75,26 @@ fn settle(found: u8, at: usize, field: Field, next: usize) -> Read
     }
 }
 
-// A body's values judged with no time before them, by its tag: as numbers, so that no field is made before it is right.
-fn header_read(body: &[u8], at: usize, next: usize) -> Read
-    requires { ⌜ length (now body) ≡ 3 ⌝ }
-    ensures { λ r. ⌜ readSays r ≡ settled (Judging.judge 0 (headerOf (now (body .entry)))) at (headerOf (now (body .entry))) next ⌝ }
-{
-    let metal = body[0];
-    let marks = join2(body[1], body[2]);
-    let found = judge_header(metal, marks);
-    settle(found, at, Field::Header { metal, marks }, next)
-}
-
+// A body's values judged by themselves, by its tag: as numbers, so that no field is made before it is right.
 fn previous_read(body: &[u8], at: usize, next: usize) -> Read
     requires { ⌜ length (now body) ≡ 5 ⌝ }
-    ensures { λ r. ⌜ readSays r ≡ settled (Judging.judge 0 (previousOf (now (body .entry)))) at (previousOf (now (body .entry))) next ⌝ }
+    ensures { λ r. ⌜ readSays r ≡ settled (Judging.judge alone (previousOf (now (body .entry)))) at (previousOf (now (body .entry))) next ⌝ }
 {
     let instrument = body[0];
     let price = price_at(body, 1);
-    let found = judge_previous(instrument, price);
+    let found = judge_previous(by_itself(), instrument, price);
     settle(found, at, Field::PreviousClose { instrument, price }, next)
 }
 
 fn trade_read(body: &[u8], at: usize, next: usize) -> Read
     requires { ⌜ length (now body) ≡ 11 ⌝ }
-    ensures { λ r. ⌜ readSays r ≡ settled (Judging.judge 0 (tradeOf (now (body .entry)))) at (tradeOf (now (body .entry))) next ⌝ }
+    ensures { λ r. ⌜ readSays r ≡ settled (Judging.judge alone (tradeOf (now (body .entry)))) at (tradeOf (now (body .entry))) next ⌝ }
 {
     let time = join4(body[0], body[1], body[2], body[3]);
     let instrument = body[4];
     let price = price_at(body, 5);
     let lots = join2(body[9], body[10]);
-    let found = judge_trade(0, time, instrument, price, lots);
+    let found = judge_trade(by_itself(), time, instrument, price, lots);
     let field = Field::Trade {
         time,
         instrument,
@@ -115,18 +106,18 @@ fn trade_read(body: &[u8], at: usize, next: usize) -> Read
 
 // Most quotes have both sides: told so, the compiler leaves the tests of absent sides out.
 fn quote_number(time: u32, instrument: u8, sides: u8, bid: Price, offer: Price) -> u8
-    ensures { λ r. ⌜ r ≡ Judging.judge 0 (F.Quote time instrument sides bid offer) ⌝ }
+    ensures { λ r. ⌜ r ≡ Judging.judge alone (F.Quote time instrument sides bid offer) ⌝ }
 {
     if sides == 3 {
-        judge_quote(0, time, instrument, 3, bid, offer)
+        judge_quote(by_itself(), time, instrument, 3, bid, offer)
     } else {
-        judge_quote(0, time, instrument, sides, bid, offer)
+        judge_quote(by_itself(), time, instrument, sides, bid, offer)
     }
 }
 
 fn quote_read(body: &[u8], at: usize, next: usize) -> Read
     requires { ⌜ length (now body) ≡ 14 ⌝ }
-    ensures { λ r. ⌜ readSays r ≡ settled (Judging.judge 0 (quoteOf (now (body .entry)))) at (quoteOf (now (body .entry))) next ⌝ }
+    ensures { λ r. ⌜ readSays r ≡ settled (Judging.judge alone (quoteOf (now (body .entry)))) at (quoteOf (now (body .entry))) next ⌝ }
 {
     let time = join4(body[0], body[1], body[2], body[3]);
     let instrument = body[4];
@@ -145,19 +136,6 @@ fn quote_read(body: &[u8], at: usize, next: usize) -> Read
 }
 
 // The field at a place whose head tells this tag and this length, with so many bytes from the place on: 4, 2 or what its values earn.
-fn header_at(sheet: &[u8], at: usize, told: u16, rest: usize) -> Read
-    requires { ⌜ Heads (now sheet) at 1 told rest ⌝ }
-    ensures { λ r. ⌜ readSays r ≡ readField (now (sheet .entry)) at ⌝ }
-{
-    let found = tagged_number(layout::HEADER, told, rest);
-    if found != number::FINE {
-        return Read::Refused(found, at);
-    }
-    let start = at + 3;
-    let next = at + 6;
-    header_read(&sheet[start..next], at, next)
-}
-
 fn previous_at(sheet: &[u8], at: usize, told: u16, rest: usize) -> Read
     requires { ⌜ Heads (now sheet) at 2 told rest ⌝ }
     ensures { λ r. ⌜ readSays r ≡ readField (now (sheet .entry)) at ⌝ }
@@ -197,20 +175,17 @@ fn quote_at(sheet: &[u8], at: usize, told: u16, rest: usize) -> Read
     quote_read(&sheet[start..next], at, next)
 }
 
-fn end_at(sheet: &[u8], at: usize, told: u16, rest: usize) -> Read
-    requires { ⌜ Heads (now sheet) at 5 told rest ⌝ }
+// Whatever stands at a place: its shape, then its values.
+fn any_at(sheet: &[u8], at: usize) -> Read
     ensures { λ r. ⌜ readSays r ≡ readField (now (sheet .entry)) at ⌝ }
 {
-    let found = tagged_number(layout::END, told, rest);
-    if found != number::FINE {
-        return Read::Refused(found, at);
+    match shape_at(sheet, at) {
+        Read::Field(field, next) => settle(judge(by_itself(), field), at, field, next),
+        Read::Refused(found, place) => Read::Refused(found, place),
     }
-    let start = at + 3;
-    let next = at + 7;
-    Read::Field(end_of(&sheet[start..next]), next)
 }
 
-// The same by the tag that stands there: first those that most fields have.
+// The same by the tag that stands there: those that most fields have by their numbers, and any other by its shape.
 fn tagged_at(sheet: &[u8], at: usize, told: u16, rest: usize) -> Read
     requires { ⌜ Heads (now sheet) at (getD (now sheet) at 0) told rest ⌝ }
     ensures { λ r. ⌜ readSays r ≡ readField (now (sheet .entry)) at ⌝ }
@@ -225,16 +200,10 @@ fn tagged_at(sheet: &[u8], at: usize, told: u16, rest: usize) -> Read
     if tag == layout::PREVIOUS_CLOSE {
         return previous_at(sheet, at, told, rest);
     }
-    if tag == layout::HEADER {
-        return header_at(sheet, at, told, rest);
-    }
-    if tag == layout::END {
-        return end_at(sheet, at, told, rest);
-    }
-    Read::Refused(number::TAG, at)
+    any_at(sheet, at)
 }
 
-// The field at a place, its values judged with no time before it.
+// The field at a place, its values judged by themselves.
 pub fn read_field(sheet: &[u8], at: usize) -> Read
     ensures { λ r. ⌜ readSays r ≡ readField (now (sheet .entry)) at ⌝ }
 {

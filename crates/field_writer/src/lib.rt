@@ -5,6 +5,7 @@ ghost use Rattle.field.specs.Writing.{fieldSize, writeNumber, written, bufferAf
 use field::Field;
 use field::Written;
 use field::judge::also;
+use field::judge::by_itself;
 use field::judge::judge;
 use field::judge::unless;
 use field::layout::remaining;
@@ -25,7 +26,8 @@ fn write_number(len: usize, at: usize, field: Field) -> u8
     ensures { λ r. ⌜ r ≡ writeNumber len at field ⌝ }
 {
     let fits = field_size(field) <= remaining(len, at);
-    also(judge(0, field), unless(fits, number::ROOM, number::FINE))
+    let room = unless(fits, number::ROOM, number::FINE);
+    also(judge(by_itself(), field), room)
 }
 
 // Writes a field at a place, where its values are in their ranges and the buffer has room for it.

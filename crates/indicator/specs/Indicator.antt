@@ -79,7 +79,7 @@ valueOf s = valueBy (s .reference) (s .bid) (s .offer)
 
 -- what a field does to the state of instrument i
 unfoldable pub taken : ℕ → Indicator → Field → Indicator
-taken i s (Header metal marks) = s
+taken i s (Header metal marks form) = s
 taken i s (PreviousClose instrument price) = cond (eqb instrument i) (afterClose s price) s
 taken i s (Trade time instrument price lots) = cond (eqb instrument i) (afterTrade s price) s
 taken i s (Quote time instrument sides bid offer) = cond (eqb instrument i) (afterQuote s sides bid offer) s
@@ -87,7 +87,7 @@ taken i s (End count) = s
 
 -- the millisecond from which a field counts: a record's time; any other field counts all day
 abbrev pub stamp : Field → ℕ
-stamp (Header metal marks) = 0
+stamp (Header metal marks form) = 0
 stamp (PreviousClose instrument price) = 0
 stamp (Trade time instrument price lots) = time
 stamp (Quote time instrument sides bid offer) = time

@@ -163,7 +163,11 @@ pub fn take_field(state: Indicator, instrument: u8, field: Field) -> Indicator
     ensures { λ r. ⌜ r ≡ taken instrument state field ⌝ }
 {
     match field {
-        Field::Header { metal: _, marks: _ } => state,
+        Field::Header {
+            metal: _,
+            marks: _,
+            form: _,
+        } => state,
         Field::PreviousClose {
             instrument: of,
             price,

@@ -1,11 +1,14 @@
--- The two laws of what `closings` promises: they hold of any results that its own contract permits, whatever its code.
+-- The laws of what `closings` promises: they hold of any results that its own contract permits, whatever its code.
 --     Closes           what the contract of `closings` permits, as the compiler generated it
 --     closings-lift    `closings` of a sheet and of the sheet with 3M lifted
 --     closings-turn    `closings` of a sheet and of the sheet with one spread turned round
+--     closings-named   `closings` of a sheet whose header says that 3M is a monthly contract
 -- Assumes nothing. Every entry of a slice of bytes is a byte: `Bytes` says so.
-use Prim.Native.Nat.{ℕ, _≤_}
+use Prim.Native.Nat.{ℕ, _≤_, _<_}
 use mathlib.Core.Path.{_≡_, refl, sym, ap, subst, _∙_}
+use mathlib.Core.Bool.{true}
 use mathlib.Core.List.{List}
+use mathlib.Core.Logic.{_⊎_}
 use lib.IntN.{ℤ}
 use borrow.Fn.Kinds.{endedOf}
 use contract.Lifetimes.{Lfts}
@@ -19,14 +22,17 @@ use Rattle.sheet.specs.Judgement.{Verdict, accepts, refuses-at, judgeSheet}
 use Rattle.price_rules.specs.declared.SixAnswers.{SixAnswers}
 use Rattle.price_rules.specs.declared.Closed.{Closed}
 use Rattle.price_rules.specs.declared.Closed.the-variants as C
-use Rattle.price_rules.specs.Closing.{Told, six, none-priced, answersBy, answersOf}
+use Rattle.price_rules.specs.Closing.{Told, refused, six, none-priced, answersBy, answersOf}
 use Rattle.price_rules.specs.Says.{closingsSay, closedSays}
 use Rattle.price_rules.specs.laws.Says.{closed-once}
 use Rattle.six_answers.proofs.closings.Reads as closings
 use Rattle.six_answers.proofs.closings.Kinds as closingsK
-use Rattle.laws.specs.Demand.{steps, lifted, Liftable, Moves, turned, turnedDay}
+use Rattle.field.specs.Judging.{thirdOf}
+use Rattle.market.specs.Market.{3M, named}
+use Rattle.laws.specs.Demand.{steps, lifted, Liftable, answerAt, Moves, turned, turnedDay}
 use Rattle.laws.specs.laws.Lift.{shifts}
 use Rattle.laws.specs.laws.Turning.{turns}
+use Rattle.laws.specs.laws.Named.{named-agrees}
 
 -- `closings`, lent a sheet that holds s, may answer x
 pub record Closes (s : List ℕ) (x : Closed) : Type 0 where
@@ -91,3 +97,8 @@ closings-turn {s} {day} {r} {y} i b low high before after =
     let law = turns s day i b (accepted s day (closingsSay r) was) low high in
     let same : law .answers ≡ closingsSay r = six-answers day day (law .answers) (closingsSay r) (sym (law .was) ∙ was) in
     closed-once (says after ∙ law .is-now) (ap (six (turnedDay i day)) (sym same))
+
+-- the contract that 3M is has 3M's answer, or is not reached
+pub closings-named : {s : List ℕ} {day : Day} {r : SixAnswers} (c : ℕ) → c < 6 → named (thirdOf (day .form)) c ≡ true → Closes s (C.Six day r)
+    → (answerAt (closingsSay r) c ≡ answerAt (closingsSay r) 3M) ⊎ (answerAt (closingsSay r) c ≡ refused 15 0)
+closings-named {s} {day} {r} c low n told = named-agrees s day (closingsSay r) c low (sym (says told)) n

@@ -1,19 +1,22 @@
--- RULES 11, the two laws as they are stated: with 3M's outright prices lifted by whole steps every priced contract is lifted by as much, its method
--- and lots and all refusals staying; with a spread turned round the six answers stay. Lift and Turning prove what stands here.
+-- RULES 11, the laws as they are stated: with 3M's outright prices lifted by whole steps every priced contract is lifted by as much, its method
+-- and lots and all refusals staying; with a spread turned round the six answers stay; the contract that 3M is has 3M's answer. Lift, Turning and Named
+-- prove what stands here.
 --     lifted, ShiftLaw     a sheet with 3M lifted, and the first law
 --     turned, TurnLaw      a sheet with one spread turned round, and the second law;  TwiceLaw    turned twice it is as it was
+--     BarredLaw            a barred spread turned round;  NamedLaw    3M a third Wednesday
 use Prim.Native.Nat.{ℕ, _-_, _^_, _≤_, _<_}
 use mathlib.Core.Path.{_≡_}
 use mathlib.Core.Bool.{true}
 use mathlib.Core.List.{List, map}
+use mathlib.Core.Logic.{_⊎_}
 use lib.Bits.{bitXor}
 use lib.IntN.{ℤ, pos, _+ℤ_, _*ℤ_}
 use lib.ListN.{getD}
 use Rattle.wire.specs.Big.{Bytes}
 use Rattle.field.specs.declared.Field.{Field}
 use Rattle.field.specs.declared.Field.the-variants.{Header, PreviousClose, Trade, Quote, End}
-use Rattle.field.specs.Judging.{priceRight, sidePricesRight}
-use Rattle.market.specs.Market.{stepOf, 3M}
+use Rattle.field.specs.Judging.{thirdOf, priceRight, sidePricesRight}
+use Rattle.market.specs.Market.{stepOf, 3M, named, barred}
 use Rattle.sheet.specs.declared.Day.{Day}
 use Rattle.sheet.specs.Fields.{fieldsOf, encode, Each}
 use Rattle.sheet.specs.Judgement.{accepts, judgeSheet}
@@ -36,7 +39,7 @@ lifted δ s = encode (map (liftedField δ) (fieldsOf s))
 
 -- they stay prices: 1 to 99,999,999
 abbrev pub Liftable : ℤ → Field → Type 0
-Liftable δ (Header metal marks) = Unit {0}
+Liftable δ (Header metal marks form) = Unit {0}
 Liftable δ (PreviousClose instrument price) = instrument ≡ 0 → priceRight 0 (shiftPrice δ price) ≡ true
 Liftable δ (Trade time instrument price lots) = instrument ≡ 0 → priceRight 0 (shiftPrice δ price) ≡ true
 Liftable δ (Quote time instrument sides bid offer) = instrument ≡ 0 → sidePricesRight 0 sides (shiftPrice δ bid) (shiftPrice δ offer) ≡ true
@@ -80,7 +83,7 @@ abbrev pub turnedMarks : ℕ → ℕ → ℕ
 turnedMarks i marks = bitXor marks (2 ^ (i - 1))
 
 abbrev pub remarked : (ℕ → ℕ) → Field → Field
-remarked m (Header metal marks) = Header metal (m marks)
+remarked m (Header metal marks form) = Header metal (m marks) form
 remarked m (PreviousClose instrument price) = PreviousClose instrument price
 remarked m (Trade time instrument price lots) = Trade time instrument price lots
 remarked m (Quote time instrument sides bid offer) = Quote time instrument sides bid offer
@@ -94,7 +97,7 @@ unfoldable pub turned : ℕ → List ℕ → List ℕ
 turned i s = encode (map (turnedField i) (fieldsOf s))
 
 abbrev pub turnedDay : ℕ → Day → Day
-turnedDay i day = record { metal = day .metal; marks = turnedMarks i (day .marks); fields = day .fields }
+turnedDay i day = record { metal = day .metal; marks = turnedMarks i (day .marks); form = day .form; fields = day .fields }
 
 -- both sheets are accepted, and their six answers are the same
 pub record Turns (i : ℕ) (s s′ : List ℕ) (day : Day) : Type 0 where
@@ -110,3 +113,13 @@ TurnLaw = (s : List ℕ) (day : Day) (i : ℕ) → Bytes s → judgeSheet s ≡ 
 -- and turned round once more the sheet is the one that it was
 abbrev pub TwiceLaw : Type 0
 TwiceLaw = (s : List ℕ) (day : Day) (i : ℕ) → Bytes s → judgeSheet s ≡ accepts day → 1 ≤ i → i ≤ 11 → turned i (turned i s) ≡ s
+
+-- of a spread that the header's third value bars, only the mark changes
+abbrev pub BarredLaw : Type 0
+BarredLaw = (s : List ℕ) (day : Day) (i : ℕ) → judgeSheet s ≡ accepts day → barred (thirdOf (day .form)) i ≡ true → turned i s ≡ encode (map (remarked (turnedMarks i)) (fieldsOf s))
+
+-- ---- 3M a third Wednesday
+
+-- the contract that 3M is has 3M's answer, method, close and lots, or is not reached
+abbrev pub NamedLaw : Type 0
+NamedLaw = (s : List ℕ) (day : Day) (answers : List Told) (c : ℕ) → c < 6 → answersOf s ≡ six day answers → named (thirdOf (day .form)) c ≡ true → (answerAt answers c ≡ answerAt answers 3M) ⊎ (answerAt answers c ≡ refused 15 0)

@@ -5,3 +5,4 @@ pub mod Shift
 pub mod Lift
 pub mod Turn
 pub mod Turning
+pub mod Named

@@ -9,6 +9,8 @@ use Rattle.text.specs.Decimal.{decimal}
 use Rattle.numerals.specs.declared.Number.{Number}
 use Rattle.numerals.specs.Numerals.{number, given}
 use Rattle.field.specs.declared.Price.{Price}
+use Rattle.field.specs.declared.Form.{Form}
+use Rattle.field.specs.declared.Form.the-variants.{Short, Long}
 use Rattle.field.specs.declared.Field.{Field}
 use Rattle.field.specs.declared.Field.the-variants as F
 use Rattle.field.specs.Judging.{hasBid, hasOffer}
@@ -52,25 +54,32 @@ quoteIn time instrument bid offer =
     (λ b p. sided Malformed (sideIn offer)
     (λ o q. Says (F.Quote t i (b + 2 * o) p q)))))
 
--- TAPE 2, a header and a previous close
-unfoldable pub headerIn : List ℕ → List ℕ → Line
-headerIn metal marks =
+-- TAPE 2, a header of a form: metal and marks; a long one's third value stands behind them
+unfoldable pub headerIn : List ℕ → List ℕ → Form → Line
+headerIn metal marks form =
     given Malformed (metalIn metal)
     (λ m. given Malformed (number 65535 marks)
-    (λ k. Says (F.Header m k)))
+    (λ k. Says (F.Header m k form)))
 
+unfoldable pub longHeaderIn : List ℕ → List ℕ → List ℕ → Line
+longHeaderIn metal marks third = given Malformed (number 255 third) (λ t. headerIn metal marks (Long t))
+
+-- TAPE 2, a previous close
 unfoldable pub previousIn : List ℕ → List ℕ → Line
 previousIn instrument cents =
     given Malformed (instrumentIn instrument)
     (λ i. paid Malformed (price cents)
     (λ p. Says (F.PreviousClose i p)))
 
--- TAPE 2, the word that says which line it is: the first of three items, the third of five
+-- TAPE 2, the word that says which line it is: the first of three items and of four, the third of five
 unfoldable pub three : List ℕ → List ℕ → List ℕ → Line
 three a b c =
-    cond (same (ascii "METAL") a) (headerIn b c)
+    cond (same (ascii "METAL") a) (headerIn b c Short)
     (cond (same (ascii "PREV") a) (previousIn b c)
     Malformed)
+
+unfoldable pub four : List ℕ → List ℕ → List ℕ → List ℕ → Line
+four a b c d = cond (same (ascii "METAL") a) (longHeaderIn b c d) Malformed
 
 unfoldable pub five : List ℕ → List ℕ → List ℕ → List ℕ → List ℕ → Line
 five a b c d e =
@@ -84,7 +93,7 @@ fieldOfItems [] = Malformed
 fieldOfItems (a ∷ []) = Malformed
 fieldOfItems (a ∷ b ∷ []) = Malformed
 fieldOfItems (a ∷ b ∷ c ∷ []) = three a b c
-fieldOfItems (a ∷ b ∷ c ∷ d ∷ []) = Malformed
+fieldOfItems (a ∷ b ∷ c ∷ d ∷ []) = four a b c d
 fieldOfItems (a ∷ b ∷ c ∷ d ∷ e ∷ []) = five a b c d e
 fieldOfItems (a ∷ b ∷ c ∷ d ∷ e ∷ f ∷ is) = Malformed
 
@@ -97,8 +106,12 @@ fieldIn s = fieldOfItems (items s)
 unfoldable pub sideText : Bool → Price → List ℕ
 sideText present p = cond present (priceText (p .cents)) (ascii "-")
 
+abbrev pub formItems : Form → List (List ℕ)
+formItems Short = []
+formItems (Long third) = decimal third ∷ []
+
 unfoldable pub itemsOf : Field → List (List ℕ)
-itemsOf (F.Header metal marks) = ascii "METAL" ∷ metalName metal ∷ decimal marks ∷ []
+itemsOf (F.Header metal marks form) = ascii "METAL" ∷ metalName metal ∷ decimal marks ∷ formItems form
 itemsOf (F.PreviousClose instrument p) = ascii "PREV" ∷ instrumentName instrument ∷ priceText (p .cents) ∷ []
 itemsOf (F.Trade time instrument p lots) = decimal time ∷ instrumentName instrument ∷ ascii "TRADE" ∷ priceText (p .cents) ∷ decimal lots ∷ []
 itemsOf (F.Quote time instrument sides bid offer) = decimal time ∷ instrumentName instrument ∷ ascii "QUOTE" ∷ sideText (hasBid sides) bid ∷ sideText (hasOffer sides) offer ∷ []

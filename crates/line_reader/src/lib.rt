@@ -1,9 +1,10 @@
 // One line of the tape, without its line feed, as a field of a day sheet; what a field's line is.
 ghost use mathlib.Core.Path.{_≡_};
-ghost use Rattle.line_reader.specs.Lines.{sideIn, tradeIn, quoteIn, headerIn, previousIn, five, three, fieldIn};
+ghost use Rattle.line_reader.specs.Lines.{sideIn, tradeIn, quoteIn, headerIn, longHeaderIn, previousIn, three, four, five, fieldIn};
 use dollars::Money;
 use dollars::read_price;
 use field::Field;
+use field::Form;
 use field::Price;
 use items::end_of;
 use names::instrument_in;
@@ -83,8 +84,9 @@ fn quote_in(time: &[u8], instrument: &[u8], bid: &[u8], offer: &[u8]) -> Line
     })
 }
 
-fn header_in(metal: &[u8], marks: &[u8]) -> Line
-    ensures { λ r. ⌜ r ≡ headerIn (now (metal .entry)) (now (marks .entry)) ⌝ }
+// A header of either form: its first two values.
+fn header_in(metal: &[u8], marks: &[u8], form: Form) -> Line
+    ensures { λ r. ⌜ r ≡ headerIn (now (metal .entry)) (now (marks .entry)) form ⌝ }
 {
     let Number::Value(m) = metal_in(metal) else {
         return Line::Malformed;
@@ -95,7 +97,17 @@ fn header_in(metal: &[u8], marks: &[u8]) -> Line
     Line::Field(Field::Header {
         metal: m as u8,
         marks: k as u16,
+        form,
     })
+}
+
+fn long_header_in(metal: &[u8], marks: &[u8], third: &[u8]) -> Line
+    ensures { λ r. ⌜ r ≡ longHeaderIn (now (metal .entry)) (now (marks .entry)) (now (third .entry)) ⌝ }
+{
+    let Number::Value(t) = read_number(third, 255) else {
+        return Line::Malformed;
+    };
+    header_in(metal, marks, Form::Long(t as u8))
 }
 
 fn previous_in(instrument: &[u8], price: &[u8]) -> Line
@@ -118,10 +130,20 @@ fn of_three(a: &[u8], b: &[u8], c: &[u8]) -> Line
     ensures { λ r. ⌜ r ≡ three (now (a .entry)) (now (b .entry)) (now (c .entry)) ⌝ }
 {
     if is_name(a, b"METAL") {
-        return header_in(b, c);
+        return header_in(b, c, Form::Short);
     }
     if is_name(a, b"PREV") {
         return previous_in(b, c);
+    }
+    Line::Malformed
+}
+
+// Four items.
+fn of_four(a: &[u8], b: &[u8], c: &[u8], d: &[u8]) -> Line
+    ensures { λ r. ⌜ r ≡ four (now (a .entry)) (now (b .entry)) (now (c .entry)) (now (d .entry)) ⌝ }
+{
+    if is_name(a, b"METAL") {
+        return long_header_in(b, c, d);
     }
     Line::Malformed
 }
@@ -160,7 +182,7 @@ pub fn read_line(s: &[u8]) -> Line
     let c1 = c + 1;
     let d = end_of(s, c1, 44);
     if s.len() <= d {
-        return Line::Malformed;
+        return of_four(&s[..a], &s[a1..b], &s[b1..c], &s[c1..d]);
     }
     let d1 = d + 1;
     let e = end_of(s, d1, 44);

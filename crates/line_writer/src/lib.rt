@@ -8,10 +8,12 @@ ghost use Rattle.text.specs.Decimal.{decimal};
 ghost use Rattle.dollars.specs.Dollars.{amount, priceText};
 ghost use Rattle.names.specs.Names.{metalName, instrumentName};
 ghost use Rattle.line_reader.specs.Lines.{sideText};
+ghost use Rattle.line_reader.specs.laws.Pieces.{formText};
 ghost use Rattle.tape.specs.Tape.{lineText};
 ghost use Rattle.field.specs.declared.Field.the-variants as F;
 ghost use Rattle.text.specs.laws.Putting.{Puts};
 use field::Field;
+use field::Form;
 use field::Price;
 use names::Name;
 use names::instrument_name;
@@ -94,14 +96,28 @@ fn put_side(buf: &mut [u8], at: usize, present: bool, price: Price) -> usize
     put(buf, at, b"-")
 }
 
-fn put_header(buf: &mut [u8], at: usize, metal: u8, marks: u16) -> usize
-    ensures { λ r. ⌜ Puts (now (buf .entry)) at (lineText (F.Header metal marks)) r (now (buf .exit)) ⌝ }
+// What a header's form puts behind its marks: a long one's third value.
+fn put_form(buf: &mut [u8], at: usize, form: Form) -> usize
+    ensures { λ r. ⌜ Puts (now (buf .entry)) at (formText form) r (now (buf .exit)) ⌝ }
+{
+    match form {
+        Form::Short => at,
+        Form::Long(third) => {
+            let next = put(buf, at, b",");
+            put_number(buf, next, third as u32)
+        }
+    }
+}
+
+fn put_header(buf: &mut [u8], at: usize, metal: u8, marks: u16, form: Form) -> usize
+    ensures { λ r. ⌜ Puts (now (buf .entry)) at (lineText (F.Header metal marks form)) r (now (buf .exit)) ⌝ }
 {
     let a = put(buf, at, b"METAL,");
     let b = put_metal(buf, a, metal);
     let c = put(buf, b, b",");
     let d = put_number(buf, c, marks as u32);
-    put(buf, d, b"\n")
+    let e = put_form(buf, d, form);
+    put(buf, e, b"\n")
 }
 
 fn put_previous(buf: &mut [u8], at: usize, instrument: u8, price: Price) -> usize
@@ -160,7 +176,7 @@ pub fn put_line(buf: &mut [u8], at: usize, field: Field) -> usize
     ensures { λ _. ⌜ now (buf .exit) ≡ over (now (buf .entry)) at (lineText field) ⌝ }
 {
     match field {
-        Field::Header { metal, marks } => put_header(buf, at, metal, marks),
+        Field::Header { metal, marks, form } => put_header(buf, at, metal, marks, form),
         Field::PreviousClose { instrument, price } => put_previous(buf, at, instrument, price),
         Field::Trade {
             time,

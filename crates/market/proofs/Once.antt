@@ -23,6 +23,10 @@ use Rattle.market.proofs.leg_by.Reads as leg-by
 use Rattle.market.proofs.leg_by.Kinds as leg-byK
 use Rattle.market.proofs.step_by.Reads as step-by
 use Rattle.market.proofs.step_by.Kinds as step-byK
+use Rattle.market.proofs.is_named.Reads as is-named
+use Rattle.market.proofs.is_named.Kinds as is-namedK
+use Rattle.market.proofs.is_barred.Reads as is-barred
+use Rattle.market.proofs.is_barred.Kinds as is-barredK
 
 pub metal-of-once : Once 0 metal-ofK.ps metal-ofK.r metal-of.Post (λ κs x s. x)
 metal-of-once κs a x y s t p q = once p q
@@ -56,3 +60,9 @@ leg-by-once κs a x y s t p q = once p q
 
 pub step-by-once : Once 0 step-byK.ps step-byK.r step-by.Post (λ κs x s. x)
 step-by-once κs a x y s t p q = once p q
+
+pub is-named-once : Once 0 is-namedK.ps is-namedK.r is-named.Post (λ κs x s. x)
+is-named-once κs a x y s t p q = once p q
+
+pub is-barred-once : Once 0 is-barredK.ps is-barredK.r is-barred.Post (λ κs x s. x)
+is-barred-once κs a x y s t p q = once p q

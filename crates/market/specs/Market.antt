@@ -1,6 +1,7 @@
--- RULES 1 to 4: the tables by metal, by contract and by instrument, what a row of each says, the windows, the marks and the minimum.
+-- RULES 1 to 4: the tables by metal, by contract, by instrument and by the header's third value, what a row of each says, the windows, the marks and
+-- the minimum.
 use Prim.Native.Nat.{ℕ, zero, suc, _+_, _/_, _%_, _^_}
-use mathlib.Core.Bool.{Bool, false, _&&_, cond}
+use mathlib.Core.Bool.{Bool, false, _&&_, _||_, cond}
 use mathlib.Core.List.{List, [], _∷_}
 use lib.Dec.{eqb, leb, ltb}
 use lib.ListN.{getD}
@@ -83,6 +84,32 @@ instruments =
     (M1 ∷ M4 ∷ []) ∷  -- 10 M1-M4
     (Cash ∷ M1 ∷ []) ∷  -- 11 Cash-M1
     []
+
+-- RULES 1, by the header's third value: the contract that 3M is, and the instruments on which no field may be then
+abbrev pub namedBy : List (List ℕ)
+namedBy =
+    [] ∷  -- 0: 3M is no monthly contract
+    (M3 ∷ []) ∷  -- 1: 3M is M3
+    (M4 ∷ []) ∷  -- 2: 3M is M4
+    []
+
+abbrev pub barredBy : List (List ℕ)
+barredBy =
+    [] ∷  -- 0: none
+    (1 ∷ 2 ∷ 6 ∷ 9 ∷ []) ∷  -- 1: M3-3M, M2-3M, 3M-M4, M1-3M
+    (4 ∷ 5 ∷ 6 ∷ 10 ∷ []) ∷  -- 2: M2-M4, M3-M4, 3M-M4, M1-M4
+    []
+
+-- a number is in a row
+unfoldable pub isIn : ℕ → List ℕ → Bool
+isIn n [] = false
+isIn n (m ∷ ms) = eqb n m || isIn n ms
+
+unfoldable pub named : ℕ → ℕ → Bool
+named third contract = isIn contract (getD namedBy third [])
+
+unfoldable pub barred : ℕ → ℕ → Bool
+barred third instrument = isIn instrument (getD barredBy third [])
 
 -- RULES 2: the later of A and B in pricing order is priced. A is B's close plus the spread, B is A's close less it
 abbrev pub legBy : ℕ → ℕ → Leg

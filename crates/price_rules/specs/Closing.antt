@@ -2,14 +2,15 @@
 use Prim.Native.Nat.{ℕ, zero, suc, _+_, _-_, _*_}
 use mathlib.Core.Bool.{Bool, true, false, not, cond}
 use mathlib.Core.List.{List, [], _∷_}
-use lib.Dec.{leb}
+use lib.Dec.{leb, eqb}
 use lib.IntN.{ℤ, pos, _+ℤ_, _-ℤ_, _*ℤ_}
 use lib.ListN.{getD, set}
 use Rattle.field.specs.declared.Field.{Field}
+use Rattle.field.specs.Judging.{thirdOf}
 use Rattle.market.specs.declared.Leg.{Leg}
 use Rattle.market.specs.declared.Leg.the-variants.{Outright, Over, Under}
 use Rattle.market.specs.declared.Contract.{Contract}
-use Rattle.market.specs.Market.{minimumLots, legOf, contractOf, startOf, stepOf, marked, windowLength}
+use Rattle.market.specs.Market.{3M, minimumLots, legOf, contractOf, startOf, stepOf, marked, named, windowLength}
 use Rattle.cents.specs.Round.{round}
 use Rattle.cents.specs.Close.{closeOf}
 use Rattle.cents.specs.Close as cents
@@ -22,17 +23,17 @@ use Rattle.price_rules.specs.declared.Method.{Method}
 use Rattle.price_rules.specs.declared.Method.the-variants.{Vwap, Twap}
 use Rattle.price_rules.specs.declared.Mean.{Mean}
 use Rattle.price_rules.specs.declared.Mean.the-variants.{Of, Missing}
-use Rattle.price_rules.specs.declared.Known.{Known}
 
 -- what pricing goes by: the header, and of each instrument its in-window trades and the sum of its indicator over the window
 pub record Figures : Type 0 where
   pub metal : ℕ
   pub marks : ℕ
+  pub third : ℕ
   pub trades : ℕ → List Deal
   pub span : ℕ → Span
 
-unfoldable pub figuresOf : ℕ → ℕ → List Field → Figures
-figuresOf metal marks fs = record { metal = metal; marks = marks; trades = λ i. tradesIn metal i fs; span = λ i. spanOf i (startOf metal i) fs }
+unfoldable pub figuresOf : ℕ → ℕ → ℕ → List Field → Figures
+figuresOf metal marks third fs = record { metal = metal; marks = marks; third = third; trades = λ i. tradesIn metal i fs; span = λ i. spanOf i (startOf metal i) fs }
 
 -- ---- implied prices
 
@@ -114,18 +115,34 @@ answered step lots Missing = refused 13 lots
 unfoldable pub rowAnswer : Figures → List ℕ → ℕ → Told
 rowAnswer day closes c = answered (stepOf (day .metal) c) (lotsOf day (contractOf c)) (meanOf day closes (contractOf c))
 
--- RULES 9: 15 with 0 lots behind a refused contract
+-- what is known before a contract: the closes established so far, whether a contract was refused, and the answer of 3M, none before its own step
+pub record Known : Type 0 where
+  pub closes : List ℕ
+  pub stopped : Bool
+  pub three : Told
+
+-- RULES 9: 15 with 0 lots behind a refused contract; RULES 1: the contract that 3M is takes 3M's answer
 abbrev pub answerBy : Figures → Known → ℕ → Told
-answerBy day k c = cond (k .stopped) (refused 15 0) (rowAnswer day (k .closes) c)
+answerBy day k c =
+    cond (k .stopped) (refused 15 0)
+    (cond (named (day .third) c) (k .three)
+    (rowAnswer day (k .closes) c))
 
 -- RULES 2 and 9: later contracts use the rounded close; a refused contract stops the list
+abbrev pub closesWith : List ℕ → ℕ → Told → List ℕ
+closesWith closes c (close method m lots) = set closes c m
+closesWith closes c (refused number lots) = closes
+
+abbrev pub isRefused : Told → Bool
+isRefused (close method m lots) = false
+isRefused (refused number lots) = true
+
 abbrev pub learnt : Known → ℕ → Told → Known
-learnt k c (close method m lots) = record { closes = set (k .closes) c m; stopped = false }
-learnt k c (refused number lots) = record { closes = k .closes; stopped = true }
+learnt k c told = record { closes = closesWith (k .closes) c told; stopped = isRefused told; three = cond (eqb c 3M) told (k .three) }
 
 -- before the first contract
 abbrev pub nothingKnown : Known
-nothingKnown = record { closes = 0 ∷ 0 ∷ 0 ∷ 0 ∷ 0 ∷ 0 ∷ []; stopped = false }
+nothingKnown = record { closes = 0 ∷ 0 ∷ 0 ∷ 0 ∷ 0 ∷ 0 ∷ []; stopped = false; three = refused 15 0 }
 
 -- what is known before contract c in pricing order, and its answer
 unfoldable pub knownAt : Figures → ℕ → Known
@@ -147,7 +164,7 @@ pub data Answers : Type 0 where
   none-priced : ℕ → ℕ → Answers
 
 abbrev pub answersBy : List Field → Verdict → Answers
-answersBy fs (accepts day) = six day (closingsOf (figuresOf (day .metal) (day .marks) fs))
+answersBy fs (accepts day) = six day (closingsOf (figuresOf (day .metal) (day .marks) (thirdOf (day .form)) fs))
 answersBy fs (refuses-at number at) = none-priced number at
 
 unfoldable pub answersOf : List ℕ → Answers

@@ -54,14 +54,8 @@ pub enum Closed {
 pub struct Book {
     pub metal: u8,
     pub marks: u16,
+    pub third: u8,
     pub totals: [Total; 12],
-}
-
-// The closes established so far, by contract, and whether a contract was refused: what the definitions go by. The code has the two apart, so
-// that it can lend the closes.
-pub struct Known {
-    pub closes: [u32; 6],
-    pub stopped: bool,
 }
 
 // Lots, and the sum of lots times implied price.

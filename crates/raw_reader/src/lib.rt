@@ -4,8 +4,9 @@ ghost use mathlib.Core.Path.{_≡_};
 ghost use mathlib.Core.Bool.{true};
 ghost use Prim.Native.Nat.{_+_, _≤_};
 ghost use lib.ListN.{length};
-ghost use Rattle.field.specs.Layout.{tagRight, lengthOf, headerOf, previousOf, tradeOf, quoteOf, endOf, priceAt, fieldOf};
+ghost use Rattle.field.specs.Layout.{tagRight, lengthOf, headerOf, previousOf, tradeOf, quoteOf, endOf, longHeaderOf, priceAt, fieldOf};
 use field::Field;
+use field::Form;
 use field::Price;
 use wire::join2;
 use wire::join4;
@@ -28,6 +29,7 @@ fn header_of(body: &[u8]) -> Field
     Field::Header {
         metal: body[0],
         marks: join2(body[1], body[2]),
+        form: Form::Short,
     }
 }
 
@@ -67,13 +69,23 @@ fn quote_of(body: &[u8]) -> Field
     }
 }
 
-// The values of an end's body.
-pub fn end_of(body: &[u8]) -> Field
+fn end_of(body: &[u8]) -> Field
     requires { ⌜ length (now body) ≡ 4 ⌝ }
     ensures { λ r. ⌜ r ≡ endOf (now (body .entry)) ⌝ }
 {
     Field::End {
         count: join4(body[0], body[1], body[2], body[3]),
+    }
+}
+
+fn long_header_of(body: &[u8]) -> Field
+    requires { ⌜ length (now body) ≡ 4 ⌝ }
+    ensures { λ r. ⌜ r ≡ longHeaderOf (now (body .entry)) ⌝ }
+{
+    Field::Header {
+        metal: body[0],
+        marks: join2(body[1], body[2]),
+        form: Form::Long(body[3]),
     }
 }
 
@@ -87,6 +99,7 @@ pub fn field_of(tag: u8, body: &[u8]) -> Field
         2 => previous_of(body),
         3 => trade_of(body),
         4 => quote_of(body),
-        _ => end_of(body),
+        5 => end_of(body),
+        _ => long_header_of(body),
     }
 }

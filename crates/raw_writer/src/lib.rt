@@ -2,13 +2,14 @@
 // for them, which `field_writer` has tested.
 ghost use mathlib.Core.Path.{_≡_};
 ghost use mathlib.Core.List.{[], _∷_, _++_};
-ghost use Prim.Native.Nat.{_≤_};
+ghost use Prim.Native.Nat.{_+_, _≤_};
 ghost use lib.ListN.{length};
 ghost use Rattle.wire.specs.Big.{bytes4, put};
-ghost use Rattle.field.specs.Layout.{lengthOf, tagOf, headBytes, bodyBytes, fieldBytes, priceBytes};
+ghost use Rattle.field.specs.Layout.{lengthOf, tagOf, headBytes, formBytes, bodyBytes, fieldBytes, priceBytes};
 ghost use Rattle.field.specs.Writing.{fieldSize};
 ghost use Rattle.field.specs.declared.Field.the-variants as F;
 use field::Field;
+use field::Form;
 use field::Price;
 use field::layout::length_of;
 use field::layout::tag_of;
@@ -26,12 +27,23 @@ fn put_head(part: &mut [u8], tag: u8)
     put2(&mut part[1..], len);
 }
 
-fn put_header(part: &mut [u8], metal: u8, marks: u16)
-    requires { ⌜ 3 ≤ length (now part) ⌝ }
-    ensures { λ _. ⌜ now (part .exit) ≡ put (bodyBytes (F.Header metal marks)) (now (part .entry)) ⌝ }
+// What a long header has behind a short one.
+fn put_form(part: &mut [u8], form: Form)
+    ensures { λ _. ⌜ now (part .exit) ≡ put (formBytes form) (now (part .entry)) ⌝ }
+{
+    match form {
+        Form::Short => {}
+        Form::Long(third) => put1(part, third),
+    }
+}
+
+fn put_header(part: &mut [u8], metal: u8, marks: u16, form: Form)
+    requires { ⌜ 3 + length (formBytes form) ≤ length (now part) ⌝ }
+    ensures { λ _. ⌜ now (part .exit) ≡ put (bodyBytes (F.Header metal marks form)) (now (part .entry)) ⌝ }
 {
     put1(part, metal);
     put2(&mut part[1..], marks);
+    put_form(&mut part[3..], form);
 }
 
 fn put_price(part: &mut [u8], price: Price)
@@ -87,7 +99,7 @@ fn put_body(part: &mut [u8], field: Field)
     ensures { λ _. ⌜ now (part .exit) ≡ put (bodyBytes field) (now (part .entry)) ⌝ }
 {
     match field {
-        Field::Header { metal, marks } => put_header(part, metal, marks),
+        Field::Header { metal, marks, form } => put_header(part, metal, marks, form),
         Field::PreviousClose { instrument, price } => put_previous(part, instrument, price),
         Field::Trade {
             time,

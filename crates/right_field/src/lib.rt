@@ -1,11 +1,11 @@
-// Whether a right field of a tag stands at a place of a sheet, its time put aside: one look at its bytes, and no field is made. What a field that is
-// not right earns, `field_reader` and `admit` say. Hosts don't call it.
+// Whether a right close, trade or quote stands at a place of a sheet, judged by itself and its time put aside: one look at its bytes, and no field is
+// made. What a field that is not right earns, `field_reader` and `admit` say. Hosts don't call it.
 ghost use mathlib.Core.Path.{_≡_};
 ghost use lib.ListN.{length};
-ghost use Rattle.field.specs.Layout.{headerOf, previousOf, tradeOf, quoteOf};
+ghost use Rattle.field.specs.Layout.{previousOf, tradeOf, quoteOf};
 ghost use Rattle.right_field.specs.laws.Right.{valuesRight, rightAt};
 use field::judge::both_sides_right;
-use field::judge::judge_header;
+use field::judge::by_itself;
 use field::judge::judge_previous;
 use field::judge::judge_quote;
 use field::judge::judge_trade;
@@ -16,19 +16,11 @@ use raw_reader::price_at;
 use wire::join2;
 
 // The values of a body earn no number, by its tag.
-fn header_values(body: &[u8]) -> bool
-    requires { ⌜ length (now body) ≡ 3 ⌝ }
-    ensures { λ r. ⌜ r ≡ valuesRight (headerOf (now (body .entry))) ⌝ }
-{
-    let found = judge_header(body[0], join2(body[1], body[2]));
-    found == number::FINE
-}
-
 fn previous_values(body: &[u8]) -> bool
     requires { ⌜ length (now body) ≡ 5 ⌝ }
     ensures { λ r. ⌜ r ≡ valuesRight (previousOf (now (body .entry))) ⌝ }
 {
-    let found = judge_previous(body[0], price_at(body, 1));
+    let found = judge_previous(by_itself(), body[0], price_at(body, 1));
     found == number::FINE
 }
 
@@ -38,7 +30,7 @@ fn trade_values(body: &[u8]) -> bool
 {
     let price = price_at(body, 5);
     let lots = join2(body[9], body[10]);
-    let found = judge_trade(0, 0, body[4], price, lots);
+    let found = judge_trade(by_itself(), 0, body[4], price, lots);
     found == number::FINE
 }
 
@@ -54,23 +46,11 @@ fn quote_values(body: &[u8]) -> bool
     if sides == 3 {
         return both_sides_right(instrument, bid, offer);
     }
-    let found = judge_quote(0, 0, instrument, sides, bid, offer);
+    let found = judge_quote(by_itself(), 0, instrument, sides, bid, offer);
     found == number::FINE
 }
 
 // A right field of the tag stands at the place.
-pub fn right_header(sheet: &[u8], at: usize) -> bool
-    ensures { λ r. ⌜ r ≡ rightAt (now (sheet .entry)) at 1 ⌝ }
-{
-    if stands(sheet, at, layout::HEADER) {
-        let start = at + 3;
-        let next = at + 6;
-        header_values(&sheet[start..next])
-    } else {
-        false
-    }
-}
-
 pub fn right_previous(sheet: &[u8], at: usize) -> bool
     ensures { λ r. ⌜ r ≡ rightAt (now (sheet .entry)) at 2 ⌝ }
 {

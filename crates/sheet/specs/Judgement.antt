@@ -20,7 +20,7 @@ pub data Verdict : Type 0 where
 
 -- the header's values, and the fields up to the end and with it
 abbrev pub dayOf : Progress → Day
-dayOf p = record { metal = p .metal; marks = p .marks; fields = p .count + 1 }
+dayOf p = record { metal = p .metal; marks = p .marks; form = p .form; fields = p .count + 1 }
 
 -- SHEET 2: behind a right end nothing follows; else 5 at the first byte of it
 unfoldable pub atEnd : ℕ → ℕ → Progress → Verdict
@@ -32,7 +32,7 @@ after length at next p (goes q) rest = rest q
 after length at next p ends rest = atEnd length next p
 after length at next p (stops number) rest = refuses-at number at
 
--- SHEET 5: field after field, its shape (2, 3, 4, 2), then whether it may come next (5 to 12). A missing end is 2 at the sheet's length, where
+-- SHEET 5: field after field, its shape (2, 3, 4, 2), then whether it may come next (5 to 12, and 18). A missing end is 2 at the sheet's length, where
 -- no byte remains
 unfoldable pub judgeReads : ℕ → ℕ → Progress → List (Said Field) → Verdict
 judgeReads length at p [] = refuses-at 2 at

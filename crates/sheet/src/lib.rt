@@ -2,36 +2,38 @@
 // pass over a sheet's bytes.
 ghost use mathlib.Core.Path.{_≡_};
 ghost use Prim.Native.Nat.{_+_, _<_, _≤_};
-ghost use lib.ListN.{length, getD};
-ghost use Rattle.wire.specs.Big.{be2At, be4At};
-ghost use Rattle.admit.specs.Admitting.{start, afterHeader};
+ghost use lib.ListN.{length};
+ghost use Rattle.wire.specs.Big.{be4At};
+ghost use Rattle.field.specs.Judging.{both, thirdOf, allowed};
+ghost use Rattle.admit.specs.Admitting.{previousPlaced};
 ghost use Rattle.sheet.specs.Judgement.{atEnd, judgeSheet, judgedSays};
 ghost use Rattle.sheet.specs.laws.Track.{OnTrack};
-ghost use Rattle.sheet.specs.laws.Past.{recordSize, Opened, Nearly};
+ghost use Rattle.sheet.specs.laws.Past.{rightSize, recordSize, Opened, Nearly};
 use admit::Admitted;
 use admit::Progress;
 use admit::admit;
-use admit::after_header;
 use admit::after_previous;
 use admit::after_record;
 use admit::begin;
 use admit::previous_placed;
+use field::Form;
 use field::Read;
+use field::judge::is_allowed;
+use field::judge::third_of;
 use field::layout;
 use field::layout::stands;
 use field::number;
 use field_reader::shape_at;
-use right_field::right_header;
 use right_field::right_previous;
 use right_field::right_quote;
 use right_field::right_trade;
-use wire::join2;
 use wire::join4;
 
 // What an accepted sheet's header says, and how many fields it has, the end with them.
 pub struct Day {
     pub metal: u8,
     pub marks: u16,
+    pub form: Form,
     pub fields: u32,
 }
 
@@ -46,10 +48,12 @@ fn at_end(len: usize, next: usize, p: Progress) -> Judged
     requires { ⌜ p .count < 1048576 ⌝ }
     ensures { λ r. ⌜ judgedSays r ≡ atEnd len next p ⌝ }
 {
+    let form = p.form;
     if next == len {
         return Judged::Accepted(Day {
             metal: p.metal,
             marks: p.marks,
+            form,
             fields: p.count + 1,
         });
     }
@@ -76,17 +80,17 @@ fn number_behind(sheet: &[u8], at: usize) -> u32
     )
 }
 
-// What is kept behind the header at the sheet's start.
-fn header_kept(sheet: &[u8]) -> Progress
-    requires { ⌜ 6 ≤ length (now sheet) ⌝ }
-    ensures { λ r. ⌜ r ≡ afterHeader start (getD (now (sheet .entry)) 3 0) (be2At (now (sheet .entry)) 4) ⌝ }
+// The header bars no field on the instrument.
+fn is_let(p: Progress, instrument: u8) -> bool
+    ensures { λ r. ⌜ r ≡ allowed (thirdOf (p .form)) instrument ⌝ }
 {
-    after_header(begin(), sheet[3], join2(sheet[4], sheet[5]))
+    let form = p.form;
+    is_allowed(third_of(form), instrument)
 }
 
-// How many bytes a trade or a quote that stands at a place has, right but for its time; 0 where none does.
-fn record_size(sheet: &[u8], at: usize) -> usize
-    ensures { λ r. ⌜ r ≡ recordSize (now (sheet .entry)) at ⌝ }
+// How many bytes a trade or a quote that stands at a place has, right by itself and but for its time; 0 where none does.
+fn right_size(sheet: &[u8], at: usize) -> usize
+    ensures { λ r. ⌜ r ≡ rightSize (now (sheet .entry)) at ⌝ }
 {
     if right_trade(sheet, at) {
         return 14;
@@ -95,6 +99,17 @@ fn record_size(sheet: &[u8], at: usize) -> usize
         return 17;
     }
     0
+}
+
+// The same, and 0 where its instrument is barred.
+fn record_size(sheet: &[u8], at: usize, p: Progress) -> usize
+    ensures { λ r. ⌜ r ≡ recordSize (now (sheet .entry)) at (thirdOf (p .form)) ⌝ }
+{
+    let size = right_size(sheet, at);
+    if size == 0 {
+        return 0;
+    }
+    if is_let(p, sheet[at + 7]) { size } else { 0 }
 }
 
 // Behind the right trades and quotes that stand one after the other. A time is held to the time before it alone: times never fall, so all lie in the
@@ -106,7 +121,7 @@ fn past_records(sheet: &[u8], from: usize, before: Progress) -> Reached
     let mut at = from;
     let mut progress = before;
     loop {
-        let size = record_size(sheet, at);
+        let size = record_size(sheet, at, progress);
         if size == 0 {
             return Reached { at, progress };
         }
@@ -116,6 +131,17 @@ fn past_records(sheet: &[u8], from: usize, before: Progress) -> Reached
         }
         progress = after_record(progress, time);
         at = at + size;
+    }
+}
+
+// A previous close on the instrument may come next: it is in its place, and not barred.
+fn close_next(p: Progress, instrument: u8) -> bool
+    ensures { λ r. ⌜ r ≡ both (previousPlaced p instrument) (allowed (thirdOf (p .form)) instrument) ⌝ }
+{
+    if previous_placed(p, instrument) {
+        is_let(p, instrument)
+    } else {
+        false
     }
 }
 
@@ -129,7 +155,7 @@ fn past_closes(sheet: &[u8], from: usize, before: Progress) -> Reached
     loop {
         if right_previous(sheet, at) {
             let instrument = sheet[at + 3];
-            if previous_placed(progress, instrument) {
+            if close_next(progress, instrument) {
                 progress = after_previous(progress, instrument);
                 at = at + 8;
             } else {
@@ -185,11 +211,11 @@ fn judge_end(sheet: &[u8], at: usize, progress: Progress) -> Judged
 
 // Judges what stands behind a right header: goes past the right closes and records, and leaves what comes then, or all records where a time is no
 // time of the day, to the judge of any field.
-fn judge_behind(sheet: &[u8], header: Progress) -> Judged
-    requires { ⌜ Opened (now sheet) 6 header ⌝ }
+fn judge_behind(sheet: &[u8], from: usize, header: Progress) -> Judged
+    requires { ⌜ Opened (now sheet) from header ⌝ }
     ensures { λ r. ⌜ judgedSays r ≡ judgeSheet (now (sheet .entry)) ⌝ }
 {
-    let closes = past_closes(sheet, 6, header);
+    let closes = past_closes(sheet, from, header);
     let opened = closes.progress;
     let records = past_records(sheet, closes.at, opened);
     let last = records.progress;
@@ -199,15 +225,20 @@ fn judge_behind(sheet: &[u8], header: Progress) -> Judged
     judge_end(sheet, records.at, last)
 }
 
-// Judges a sheet: its length, then its fields.
+// Judges a sheet: its length, its first field, then what stands behind the header.
 pub fn judge_sheet(sheet: &[u8]) -> Judged
     ensures { λ r. ⌜ judgedSays r ≡ judgeSheet (now (sheet .entry)) ⌝ }
 {
     if 1_048_576 < sheet.len() {
         return Judged::Refused(number::LONG, 0);
     }
-    if right_header(sheet, 0) {
-        return judge_behind(sheet, header_kept(sheet));
+    let first = begin();
+    match shape_at(sheet, 0) {
+        Read::Refused(found, _) => Judged::Refused(found, 0),
+        Read::Field(field, next) => match admit(first, field) {
+            Admitted::Refused(found) => Judged::Refused(found, 0),
+            Admitted::Ended => at_end(sheet.len(), next, first),
+            Admitted::Next(header) => judge_behind(sheet, next, header),
+        },
     }
-    judge_from(sheet, 0, begin())
 }

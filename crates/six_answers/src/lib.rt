@@ -3,12 +3,13 @@
 ghost use mathlib.Core.Path.{_≡_};
 ghost use mathlib.Core.List.{map};
 ghost use Rattle.sheet.specs.Fields.{fieldsOf};
-ghost use Rattle.price_rules.specs.Closing.{figuresOf, closingsOf, answersOf};
+ghost use Rattle.price_rules.specs.Closing.{figuresOf, isRefused, closingsOf, answersOf};
 ghost use Rattle.price_rules.specs.Says.{answerSays, closingsSay, closedSays};
 ghost use Rattle.contract_price.specs.laws.Ready.{Ready, figuresBy, bookOf};
 ghost use Rattle.six_answers.specs.laws.Apart.{lotsOnly, valueOnly};
-ghost use Rattle.six_answers.specs.laws.State.{closeIn, isRefused, byName};
+ghost use Rattle.six_answers.specs.laws.State.{closeIn, byName};
 use contract_price::price_one;
+use field::judge::third_of;
 use market::contract_rows;
 use market::instrument_rows;
 use price_rules::Answer;
@@ -80,16 +81,17 @@ fn is_refused(a: Answer) -> bool
     }
 }
 
-// The six contracts in pricing order, each with the closes before it. The tables are looked up once, and lent.
+// The six contracts in pricing order, each with the closes before it and 3M's answer. The tables are looked up once, and lent.
 fn price_in_order(
     sheet: &[u8],
     metal: u8,
     marks: u16,
+    third: u8,
     lots: &[u64; 12],
     values: &[i64; 12],
 ) -> [Answer; 6]
-    requires { ⌜ Ready (now sheet) (bookOf metal marks (now lots) (now values)) ⌝ }
-    ensures { λ r. ⌜ closingsSay (byName r) ≡ closingsOf (figuresOf metal marks (fieldsOf (now (sheet .entry)))) ⌝ }
+    requires { ⌜ Ready (now sheet) (bookOf metal marks third (now lots) (now values)) ⌝ }
+    ensures { λ r. ⌜ closingsSay (byName r) ≡ closingsOf (figuresOf metal marks third (fieldsOf (now (sheet .entry)))) ⌝ }
 {
     let rows = contract_rows();
     let legs = instrument_rows();
@@ -98,16 +100,19 @@ fn price_in_order(
     let mut six = [Answer::NotReached; 6];
     let mut c = 0;
     while c < 6 {
+        let three = six[0];
         let a = price_one(
             sheet,
             metal,
             marks,
+            third,
             &rows,
             &legs,
             lots,
             values,
             &closes,
             stopped,
+            three,
             c,
         );
         six[c] = a;
@@ -126,7 +131,7 @@ fn price_all(sheet: &[u8], book: Book) -> SixAnswers
     let totals = book.totals;
     let lots = lots_of(totals);
     let values = values_of(totals);
-    let six = price_in_order(sheet, book.metal, book.marks, &lots, &values);
+    let six = price_in_order(sheet, book.metal, book.marks, book.third, &lots, &values);
     SixAnswers {
         three: six[0],
         m3: six[1],
@@ -146,9 +151,11 @@ pub fn closings(sheet: &[u8]) -> Closed
     match judged {
         Judged::Accepted(day) => {
             let sums = traded.totals;
+            let form = day.form;
             let book = Book {
                 metal: day.metal,
                 marks: day.marks,
+                third: third_of(form),
                 totals: sums,
             };
             Closed::Six(day, price_all(sheet, book))

@@ -33,9 +33,9 @@ with f (bad number line) = bad number line
 -- `admit` gives 1 where its count reaches the limit, and a text has 1 behind all lines: the count that it is asked with stops below. Such a text has no
 -- sheet within the limit, so nothing else changes
 unfoldable pub capped : Progress → Progress
-capped p = cond (leb (p .count) 1048575) p (record { stage = p .stage; instrument = p .instrument; time = p .time; count = 1048575; metal = p .metal; marks = p .marks })
+capped p = cond (leb (p .count) 1048575) p (record { stage = p .stage; instrument = p .instrument; time = p .time; count = 1048575; metal = p .metal; marks = p .marks; form = p .form })
 
--- 5 to 11 by what `admit` says of the line's field; no line says an end
+-- 5 to 11 and 18 by what `admit` says of the line's field; no line says an end
 unfoldable pub onward : ℕ → Field → Step → (Progress → LinesSay) → LinesSay
 onward line f (goes q) later = with f (later q)
 onward line f ends later = bad 17 line
@@ -77,7 +77,7 @@ sheetMade (bad number line) = refused number line
 
 -- TAPE 6: a line for each field, with its line feed; an end has none
 unfoldable pub lineText : Field → List ℕ
-lineText (F.Header metal marks) = lineOf (F.Header metal marks) ++ 10 ∷ []
+lineText (F.Header metal marks form) = lineOf (F.Header metal marks form) ++ 10 ∷ []
 lineText (F.PreviousClose instrument p) = lineOf (F.PreviousClose instrument p) ++ 10 ∷ []
 lineText (F.Trade time instrument p lots) = lineOf (F.Trade time instrument p lots) ++ 10 ∷ []
 lineText (F.Quote time instrument sides bid offer) = lineOf (F.Quote time instrument sides bid offer) ++ 10 ∷ []

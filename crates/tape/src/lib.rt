@@ -34,6 +34,7 @@ fn capped_at(p: Progress) -> Progress
     if p.count <= 1_048_575 {
         return p;
     }
+    let form = p.form;
     Progress {
         stage: p.stage,
         instrument: p.instrument,
@@ -41,6 +42,7 @@ fn capped_at(p: Progress) -> Progress
         count: 1_048_575,
         metal: p.metal,
         marks: p.marks,
+        form,
     }
 }
 

@@ -26,7 +26,7 @@ counts metal i instrument time = eqb instrument i && inWindow (startOf metal i) 
 
 -- the trade that a field is, where it counts
 unfoldable pub tradeIn : ℕ → ℕ → Field → List Deal
-tradeIn metal i (Header m marks) = []
+tradeIn metal i (Header m marks form) = []
 tradeIn metal i (PreviousClose instrument price) = []
 tradeIn metal i (Trade time instrument price lots) = cond (counts metal i instrument time) (record { price = price .cents; lots = lots } ∷ []) []
 tradeIn metal i (Quote time instrument sides bid offer) = []

@@ -85,7 +85,11 @@ fn count_in(row: Metal, field: Field) -> Counted
                 Counted::Nothing
             }
         }
-        Field::Header { metal: _, marks: _ } => Counted::Nothing,
+        Field::Header {
+            metal: _,
+            marks: _,
+            form: _,
+        } => Counted::Nothing,
         Field::PreviousClose {
             instrument: _,
             price: _,

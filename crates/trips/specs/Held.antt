@@ -12,9 +12,9 @@ use Rattle.field.specs.declared.Field.the-variants.{Header, PreviousClose, Trad
 abbrev pub HeldPrice : Price → Type 0
 HeldPrice price = SFits w32 (price .cents)
 
--- each value fits its bytes; a metal, an instrument and a sides byte are one byte as they are
+-- each value fits its bytes; a metal, a third value, an instrument and a sides byte are one byte as they are
 abbrev pub Held : Field → Type 0
-Held (Header metal marks) = marks < 65536
+Held (Header metal marks form) = marks < 65536
 Held (PreviousClose instrument price) = HeldPrice price
 Held (Trade time instrument price lots) = (time < 4294967296) × HeldPrice price × (lots < 65536)
 Held (Quote time instrument sides bid offer) = (time < 4294967296) × HeldPrice bid × HeldPrice offer
@@ -22,7 +22,7 @@ Held (End count) = count < 4294967296
 
 -- a count fits its four bytes, as every count of the code does
 abbrev pub Counted : Field → Type 0
-Counted (Header metal marks) = Unit {0}
+Counted (Header metal marks form) = Unit {0}
 Counted (PreviousClose instrument price) = Unit {0}
 Counted (Trade time instrument price lots) = Unit {0}
 Counted (Quote time instrument sides bid offer) = Unit {0}

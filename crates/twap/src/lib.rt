@@ -50,7 +50,11 @@ fn stamp_of(field: Field) -> u64
             bid: _,
             offer: _,
         } => time as u64,
-        Field::Header { metal: _, marks: _ } => 0,
+        Field::Header {
+            metal: _,
+            marks: _,
+            form: _,
+        } => 0,
         Field::PreviousClose {
             instrument: _,
             price: _,

@@ -81,7 +81,10 @@ pub unsafe extern "C" fn second_list(sheet: *const u8, len: usize, out: *mut u8,
 
 fn values_of(field: Field) -> [i64; 6] {
     match field {
-        Field::Header(f) => [1, f.metal.into(), f.marks.into(), 0, 0, 0],
+        Field::Header(f) => match f.third {
+            None => [1, f.metal.into(), f.marks.into(), 0, 0, 0],
+            Some(third) => [6, f.metal.into(), f.marks.into(), third.into(), 0, 0],
+        },
         Field::PreviousClose(f) => [2, f.instrument.into(), f.price.into(), 0, 0, 0],
         Field::Trade(f) => {
             let instrument = f.instrument.into();

@@ -7,12 +7,20 @@ use independent::tables::{metal_row, window_start, WINDOW};
 use independent::tape;
 use independent::{judge_sheet, Answer, Day};
 
-/// The judgement. Wrong under `equal-sides`: a bid equal to the offer is 11.
+/// The judgement. Wrong under `equal-sides` and under `late-bar`.
 pub fn judge(sheet: &[u8]) -> Result<Day, Refusal> {
     let judged = judge_sheet(sheet);
-    if !cfg!(feature = "equal-sides") {
-        return judged;
+    if cfg!(feature = "equal-sides") {
+        without_equal_sides(sheet, judged)
+    } else if cfg!(feature = "late-bar") {
+        with_a_late_bar(sheet, judged)
+    } else {
+        judged
     }
+}
+
+/// `equal-sides`: a bid equal to the offer is 11.
+fn without_equal_sides(sheet: &[u8], judged: Result<Day, Refusal>) -> Result<Day, Refusal> {
     let behind = match &judged {
         Ok(_) => sheet.len(),
         Err((_, byte)) => *byte,
@@ -28,6 +36,19 @@ pub fn judge(sheet: &[u8]) -> Result<Day, Refusal> {
         at = next;
     }
     judged
+}
+
+/// `late-bar`: 18 comes behind 8, so a field that is 8 where nothing is barred is 8.
+fn with_a_late_bar(sheet: &[u8], judged: Result<Day, Refusal>) -> Result<Day, Refusal> {
+    let Err((18, byte)) = judged else {
+        return judged;
+    };
+    let mut without = sheet.to_vec();
+    without[6] = 0;
+    match judge_sheet(&without) {
+        Err((8, at)) if at == byte => Err((8, byte)),
+        _ => judged,
+    }
 }
 
 /// The sheet of a text. Wrong under `negative-zero`: -0.00 is taken for 0.00.

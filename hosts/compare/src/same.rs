@@ -145,7 +145,10 @@ fn look_at_field(sheet: &[u8], at: usize) -> Result<Option<usize>, String> {
 /// The independent program's field as the library's.
 fn values(field: &independent::Field) -> Field {
     match *field {
-        independent::Field::Header(f) => Field::Header { metal: f.metal, marks: f.marks },
+        independent::Field::Header(f) => match f.third {
+            None => Field::Header { metal: f.metal, marks: f.marks },
+            Some(third) => Field::LongHeader { metal: f.metal, marks: f.marks, third },
+        },
         independent::Field::PreviousClose(f) => {
             Field::PreviousClose { instrument: f.instrument, cents: f.price }
         }

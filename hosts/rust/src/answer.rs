@@ -55,7 +55,8 @@ impl fmt::Display for Contract {
     }
 }
 
-/// A contract's answer. Lots are the sum over its VWAP instruments in the window, and 0 for one that was not reached.
+/// A contract's answer. Lots are the sum over its VWAP instruments in the window, and 0 for one that was not reached. M3 or M4 has that
+/// of 3M where the header's third value names it and none before it is refused.
 #[derive(Clone, Copy, Debug, PartialEq, Eq, Hash)]
 pub enum Answer {
     /// A close, 1 to 99,999,999 cents.

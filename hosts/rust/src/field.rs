@@ -12,12 +12,22 @@ pub const OFFER: u8 = 2;
 /// The values of one field. Any value can be held; the reader hands back none out of its range, and the writer refuses such.
 #[derive(Clone, Copy, Debug, PartialEq, Eq, Hash)]
 pub enum Field {
-    /// The first field of a sheet.
+    /// The first field of a sheet, without a third value: as a long header whose third value is 0.
     Header {
         /// 1 Nickel, 2 Aluminium, 3 Zinc, 4 Copper, 5 Lead.
         metal: u8,
         /// Bit i-1 is set where spread i is quoted reversed.
         marks: u16,
+    },
+    /// The first field of a sheet, with a third value.
+    LongHeader {
+        /// 1 Nickel, 2 Aluminium, 3 Zinc, 4 Copper, 5 Lead.
+        metal: u8,
+        /// Bit i-1 is set where spread i is quoted reversed, a barred one too.
+        marks: u16,
+        /// The contract that has the date of 3M: 0 none, 1 M3, 2 M4. It takes 3M's answer. With 1 a whole sheet has no fields on the
+        /// instruments 1, 2, 6 and 9, with 2 none on 4, 5, 6 and 10 ([`Reason::Barred`]).
+        third: u8,
     },
     /// The previous close of an instrument.
     PreviousClose {
@@ -79,6 +89,7 @@ impl Field {
                 offer: e as i32,
             },
             5 => Field::End { count: a as u32 },
+            6 => Field::LongHeader { metal: a as u8, marks: b as u16, third: c as u8 },
             _ => unreachable!("{tag} is no tag of a field"),
         }
     }
@@ -108,6 +119,9 @@ pub fn write_field(buffer: &mut [u8], at: usize, field: &Field) -> Result<usize,
         match *field {
             Field::Header { metal, marks } => {
                 raw::bliskoru_write_header(start, length, at, metal, marks, behind)
+            }
+            Field::LongHeader { metal, marks, third } => {
+                raw::bliskoru_write_long_header(start, length, at, metal, marks, third, behind)
             }
             Field::PreviousClose { instrument, cents } => {
                 raw::bliskoru_write_previous_close(start, length, at, instrument, cents, behind)

@@ -2,7 +2,7 @@
 //!
 //! # Safety
 //!
-//! The same holds for all eleven. A pointer and the length behind it are a slice, and every other pointer is a reference: none is null,
+//! The same holds for all twelve. A pointer and the length behind it are a slice, and every other pointer is a reference: none is null,
 //! even where the length is 0; each is aligned and holds for the whole call; what a `*mut` points to overlaps with nothing else that
 //! is lent to the same call. `answers` points to 18 numbers and `values` to 6.
 
@@ -10,10 +10,10 @@ extern "C" {
     /// The closing list into `out`: its length, or 0 where it does not fit and nothing is written.
     pub fn bliskoru_list(sheet: *const u8, sheet_len: usize, out: *mut u8, out_len: usize) -> usize;
 
-    /// 0, or the sheet's refusal, 1 to 12, with its byte in `at`.
+    /// 0, or the sheet's refusal, 1 to 12 or 18, with its byte in `at`.
     pub fn bliskoru_judge(sheet: *const u8, sheet_len: usize, at: *mut usize) -> u8;
 
-    /// 0 and six rows of three numbers; or the sheet's refusal, 1 to 12, with its byte in `at`.
+    /// 0 and six rows of three numbers; or the sheet's refusal, 1 to 12 or 18, with its byte in `at`.
     pub fn bliskoru_answers(
         sheet: *const u8,
         sheet_len: usize,
@@ -37,6 +37,17 @@ extern "C" {
         at: usize,
         metal: u8,
         marks: u16,
+        next: *mut usize,
+    ) -> u8;
+
+    /// 0 and the place behind the long header; or 6, 16, and nothing is written.
+    pub fn bliskoru_write_long_header(
+        buffer: *mut u8,
+        buffer_len: usize,
+        at: usize,
+        metal: u8,
+        marks: u16,
+        third: u8,
         next: *mut usize,
     ) -> u8;
 
@@ -84,7 +95,7 @@ extern "C" {
         next: *mut usize,
     ) -> u8;
 
-    /// 0, the sheet and its `length`; or 5, 6, 8 to 11, 17 with the line in `at`, then 1, 16 with 0 there, and nothing else is written.
+    /// 0, the sheet and its `length`; or 5, 6, 8 to 11, 17, 18 with the line in `at`, then 1, 16 with 0 there, and nothing else is written.
     pub fn bliskoru_tape_to_sheet(
         tape: *const u8,
         tape_len: usize,
@@ -94,7 +105,7 @@ extern "C" {
         at: *mut usize,
     ) -> u8;
 
-    /// 0, the text and its `length`; or 1 to 12 with the byte in `at`, then 16 with 0 there, and nothing else is written.
+    /// 0, the text and its `length`; or 1 to 12, 18 with the byte in `at`, then 16 with 0 there, and nothing else is written.
     pub fn bliskoru_sheet_to_tape(
         sheet: *const u8,
         sheet_len: usize,

@@ -11,13 +11,13 @@ pub enum Reason {
     SheetTooLong = 1,
     /// Bytes of a field are missing, or the end field is.
     BytesMissing = 2,
-    /// The tag is not 1 to 5.
+    /// The tag is not 1 to 6.
     Tag = 3,
     /// The length is not the tag's.
     Length = 4,
     /// The field or the line is out of its place, bytes stand after the end field, or a tape has no line.
     OutOfPlace = 5,
-    /// There is no such metal, or a mark that no spread has.
+    /// There is no such metal, a mark that no spread has, or no such third value.
     MetalOrMarks = 6,
     /// The instrument is above 11.
     Instrument = 7,
@@ -41,10 +41,12 @@ pub enum Reason {
     DoesNotFit = 16,
     /// A line of a tape is malformed, or names what there is not.
     Line = 17,
+    /// The header's third value bars the instrument, in a whole sheet or a tape.
+    Barred = 18,
 }
 
 /// Every reason, number 1 first.
-const REASONS: [Reason; 17] = [
+const REASONS: [Reason; 18] = [
     Reason::SheetTooLong,
     Reason::BytesMissing,
     Reason::Tag,
@@ -62,6 +64,7 @@ const REASONS: [Reason; 17] = [
     Reason::NotReached,
     Reason::DoesNotFit,
     Reason::Line,
+    Reason::Barred,
 ];
 
 impl Reason {
@@ -70,7 +73,7 @@ impl Reason {
         self as u8
     }
 
-    /// The reason of a number, none where it is not 1 to 17.
+    /// The reason of a number, none where it is not 1 to 18.
     pub fn from_number(number: u8) -> Option<Reason> {
         REASONS.get(usize::from(number).checked_sub(1)?).copied()
     }
@@ -85,12 +88,14 @@ impl Reason {
         match self {
             Reason::SheetTooLong => "the sheet has more than 1,048,576 bytes",
             Reason::BytesMissing => "bytes of a field or the end field are missing",
-            Reason::Tag => "the tag is not 1 to 5",
+            Reason::Tag => "the tag is not 1 to 6",
             Reason::Length => "the length is not the tag's",
             Reason::OutOfPlace => {
                 "the field or line is out of its place, bytes stand after the end field, or there is no line"
             }
-            Reason::MetalOrMarks => "there is no such metal, or a mark that no spread has",
+            Reason::MetalOrMarks => {
+                "there is no such metal, a mark that no spread has, or no such third value"
+            }
             Reason::Instrument => "the instrument is above 11",
             Reason::Time => "the time is above its range or below the time before it",
             Reason::Price => "a price is out of its range",
@@ -104,6 +109,7 @@ impl Reason {
             Reason::NotReached => "an earlier contract was refused",
             Reason::DoesNotFit => "there is no room for the field at that place, or for the sheet or text",
             Reason::Line => "the line is malformed, or names what there is not",
+            Reason::Barred => "the header's third value bars the instrument",
         }
     }
 }
@@ -119,7 +125,7 @@ impl Error for Reason {}
 /// A sheet that is refused: why, and the byte at which the field starts that earned it.
 #[derive(Clone, Copy, Debug, PartialEq, Eq, Hash)]
 pub struct Refusal {
-    /// Why: [`Reason::SheetTooLong`] to [`Reason::EndCount`], and [`Reason::DoesNotFit`] where its text has no room.
+    /// Why: [`Reason::SheetTooLong`] to [`Reason::EndCount`], [`Reason::Barred`], and [`Reason::DoesNotFit`] where its text has no room.
     pub reason: Reason,
     /// The byte, counted from 0: where the field starts; 0 for a sheet that is too long, or has no room for its text; the sheet's length
     /// where the end is missing.
@@ -141,7 +147,8 @@ impl Error for Refusal {
 /// A text tape that is refused: why, and its first bad line.
 #[derive(Clone, Copy, Debug, PartialEq, Eq, Hash)]
 pub struct TapeRefusal {
-    /// Why: 5, 6, 8 to 11 or [`Reason::Line`] for a line; [`Reason::SheetTooLong`] or [`Reason::DoesNotFit`] where no line is bad.
+    /// Why: 5, 6, 8 to 11, [`Reason::Line`] or [`Reason::Barred`] for a line; [`Reason::SheetTooLong`] or [`Reason::DoesNotFit`] where no
+    /// line is bad.
     pub reason: Reason,
     /// The line, counted from 1; 0 where no line is bad.
     pub line: usize,

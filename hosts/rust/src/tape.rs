@@ -9,7 +9,8 @@ pub const LONGEST_TAPE: usize = 3_145_728;
 
 /// The sheet of a text tape, with its right end field.
 ///
-/// Refused at the first bad line with 5, 6, 8 to 11 or [`Reason::Line`]; where no line is bad, with [`Reason::SheetTooLong`].
+/// Refused at the first bad line with 5, 6, 8 to 11, [`Reason::Line`] or [`Reason::Barred`]; where no line is bad, with
+/// [`Reason::SheetTooLong`].
 ///
 /// ```
 /// use bliskoru::{judge, sheet_to_tape, tape_to_sheet, Reason};
@@ -24,7 +25,8 @@ pub const LONGEST_TAPE: usize = 3_145_728;
 /// # Ok::<(), Box<dyn std::error::Error>>(())
 /// ```
 pub fn tape_to_sheet(tape: &[u8]) -> Result<Vec<u8>, TapeRefusal> {
-    // A quote's line has at least 15 bytes for the 17 of its field, METAL's 13 for header and end, and others more than their fields.
+    // A quote's line has at least 15 bytes for the 17 of its field, METAL's 13 for header and end or 15 for the 14 of a long header and end,
+    // and others more than their fields.
     let mut sheet = vec![0; tape.len().saturating_mul(2).min(LONGEST_SHEET)];
     let length = tape_to_sheet_into(tape, &mut sheet)?;
     sheet.truncate(length);
@@ -49,7 +51,7 @@ pub fn tape_to_sheet_into(tape: &[u8], sheet: &mut [u8]) -> Result<usize, TapeRe
 
 /// The text tape of a sheet: turned into a sheet again it is that sheet.
 ///
-/// Refused with 1 to 12, as [`judge`](crate::judge) does it.
+/// Refused with 1 to 12 or [`Reason::Barred`], as [`judge`](crate::judge) does it.
 ///
 /// ```
 /// let sheet = [1, 0, 3, 5, 0, 1, 5, 0, 4, 0, 0, 0, 1];

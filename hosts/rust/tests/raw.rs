@@ -3,7 +3,8 @@
 mod common;
 
 use bliskoru::raw;
-use common::{file, filled, longer, nickel_of, nickel_tape_of, rows, tape_rows, Row, FILL, FILLED, GUARD};
+use common::{file, filled, longer, rows, tape_rows, Row, FILL, FILLED, GUARD};
+use common::{long_nickel_of, long_nickel_tape_of, nickel_of, nickel_tape_of};
 
 /// All that a call may write but buffers, between guards.
 #[repr(C)]
@@ -115,6 +116,10 @@ fn written(row: &Row, buffer: &mut [u8], at: usize, next: &mut usize) -> u8 {
                 let (bid, offer) = (v[3] as i32, v[4] as i32);
                 raw::bliskoru_write_quote(start, length, at, time, instrument, sides, bid, offer, next)
             }
+            6 => {
+                let (metal, marks, third) = (v[0] as u8, v[1] as u16, v[2] as u8);
+                raw::bliskoru_write_long_header(start, length, at, metal, marks, third, next)
+            }
             _ => raw::bliskoru_write_end(start, length, at, v[0] as u32, next),
         }
     }
@@ -190,7 +195,7 @@ fn tapes_are_turned_into_sheets_and_back_or_refused_at_a_line() {
 
 #[test]
 fn refused_sheets_have_no_text() {
-    for row in rows("sheets", 50) {
+    for row in rows("sheets", 130) {
         let refusal = Err((row.number(), row.numbers[1] as usize));
         look_at_rooms(raw::bliskoru_sheet_to_tape, &row.bytes, refusal, &row.text);
     }
@@ -198,7 +203,7 @@ fn refused_sheets_have_no_text() {
 
 #[test]
 fn sample_tapes_are_those_of_their_sheets() {
-    for name in ["nickel", "copper"] {
+    for name in ["nickel", "copper", "third_wednesday"] {
         look_at_pair(&file(&format!("examples/{name}.tape")), &file(&format!("examples/{name}.sheet")), name);
     }
 }
@@ -208,6 +213,23 @@ fn the_longest_sheet_has_a_text_and_a_longer_one_has_none() {
     let sheet = nickel_of(74_884, 11);
     look_at_pair(&nickel_tape_of(74_884, 11), &sheet, "longest");
     look_at_rooms(raw::bliskoru_sheet_to_tape, &longer(&sheet), Err((1, 0)), "one byte longer");
+}
+
+/// By a long header 7 + 14 * 74,890 + 17 * 6 + 7 = 1,048,576; M3 is 3M. The fields of the longest sheet by a short header are a byte too
+/// many behind a long one, and a barred line, the 74,897th of its text, comes before that.
+#[test]
+fn the_longest_sheet_by_a_long_header_is_priced_and_has_a_text() {
+    let sheet = long_nickel_of(1, 74_890, 6);
+    assert_eq!(sheet.len(), 1_048_576);
+    let answers =
+        [1, 1_800_000, 748_900_000, 1, 1_800_000, 748_900_000, 13, 0, 0, 15, 0, 0, 15, 0, 0, 15, 0, 0];
+    look_at_sheet(&sheet, 0, 0, Some(answers), "longest by a long header");
+    look_at_pair(&long_nickel_tape_of(1, 74_890, 6), &sheet, "longest by a long header");
+    look_at_sheet(&long_nickel_of(1, 74_884, 11), 1, 0, None, "too long by a long header");
+    let tape = long_nickel_tape_of(1, 74_884, 11);
+    look_at_turning(raw::bliskoru_tape_to_sheet, &tape, Err((1, 0)), 1_048_577, "too long by a long header");
+    let barred = [&tape[..], b"58500000,M3-3M,QUOTE,-,-\n"].concat();
+    look_at_rooms(raw::bliskoru_tape_to_sheet, &barred, Err((18, 74_897)), "too long and barred");
 }
 
 /// A sheet of 6 + 14 * 74,895 + 17 * 2 + 7 = 1,048,577 bytes, of which the text has 74,898 lines.
@@ -226,7 +248,7 @@ fn a_text_too_long_for_a_sheet_is_refused_in_any_room_behind_every_bad_line() {
 
 #[test]
 fn fields_are_written_at_every_edge_of_room_and_place() {
-    for row in rows("fields", 80) {
+    for row in rows("fields", 110) {
         let size = row.bytes.len();
         for (length, at) in [(size, 0), (size - 1, 0), (0, 0), (size + 9, 5), (size + 5, 5), (size + 4, 5)] {
             look_at_write(&row, length, at);
@@ -240,7 +262,7 @@ fn fields_are_written_at_every_edge_of_room_and_place() {
 
 #[test]
 fn fields_are_read_as_their_values_or_refused_by_them() {
-    for row in rows("fields", 80) {
+    for row in rows("fields", 110) {
         let size = row.bytes.len();
         let values: [i64; 6] = std::array::from_fn(|k| row.numbers[1 + k] as i64);
         let wanted = |next: usize| if row.number() == 0 { Ok((values, next)) } else { Err(row.number()) };
@@ -253,7 +275,7 @@ fn fields_are_read_as_their_values_or_refused_by_them() {
 
 #[test]
 fn what_is_no_field_is_refused_at_every_place() {
-    for row in rows("heads", 35) {
+    for row in rows("heads", 50) {
         look_at_read(&row.bytes, row.numbers[1] as usize, Err(row.number()), &row.text);
     }
 }
@@ -268,7 +290,7 @@ fn a_field_is_read_far_behind_the_longest_sheet() {
 
 #[test]
 fn refused_sheets_have_their_number_and_byte() {
-    for row in rows("sheets", 50) {
+    for row in rows("sheets", 130) {
         let byte = row.numbers[1] as usize;
         look_at_sheet(&row.bytes, row.number(), byte, None, &row.text);
         look_at_list(&row.bytes, format!("refused {} {byte}\n", row.number()).as_bytes(), &row.text);
@@ -277,7 +299,7 @@ fn refused_sheets_have_their_number_and_byte() {
 
 #[test]
 fn accepted_sheets_have_their_answers() {
-    for row in rows("answers", 20) {
+    for row in rows("answers", 50) {
         let answers = std::array::from_fn(|k| row.numbers[k] as u64);
         look_at_sheet(&row.bytes, 0, 0, Some(answers), &row.text);
     }
@@ -285,7 +307,7 @@ fn accepted_sheets_have_their_answers() {
 
 #[test]
 fn samples_have_their_lists() {
-    for name in ["nickel", "copper", "torn", "no_reference", "resting"] {
+    for name in ["nickel", "copper", "torn", "no_reference", "resting", "third_wednesday"] {
         let list = file(&format!("examples/{name}.list"));
         look_at_list(&file(&format!("examples/{name}.sheet")), &list, name);
     }
@@ -317,4 +339,14 @@ fn the_longest_listed_sheet_is_listed_and_a_longer_one_is_not() {
     look_at_sheet(&longer(&sheet), 5, 65_536, None, "65,537 bytes");
     look_at_list(&vec![0; 65_536], b"refused 3 0\n", "65,536 zero bytes");
     look_at_list(&vec![0; 65_537], b"too long\n", "65,537 zero bytes");
+}
+
+/// By a long header 7 + 14 * 4,668 + 17 * 10 + 7 = 65,536; M3 is 3M.
+#[test]
+fn the_longest_listed_sheet_by_a_long_header_has_the_answer_of_3m_twice() {
+    let sheet = long_nickel_of(1, 4_668, 10);
+    assert_eq!(sheet.len(), 65_536);
+    let priced = "Nickel\n3M VWAP 1800000 46680000\nM3 VWAP 1800000 46680000\nM2 refused 13 0\n";
+    let list = format!("{priced}M4 refused 15 0\nM1 refused 15 0\nCash refused 15 0\n");
+    look_at_list(&sheet, list.as_bytes(), "65,536 bytes by a long header");
 }

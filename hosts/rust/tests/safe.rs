@@ -29,6 +29,7 @@ fn field_of(row: &Row) -> Field {
             bid: v[3] as i32,
             offer: v[4] as i32,
         },
+        6 => Field::LongHeader { metal: v[0] as u8, marks: v[1] as u16, third: v[2] as u8 },
         _ => Field::End { count: v[0] as u32 },
     }
 }
@@ -45,7 +46,7 @@ fn answer_of(row: &[i128]) -> Answer {
 
 #[test]
 fn fields_are_read_and_written() {
-    for row in rows("fields", 80) {
+    for row in rows("fields", 110) {
         let (field, size) = (field_of(&row), row.bytes.len());
         let wanted = if row.number() == 0 { Ok(()) } else { Err(reason(row.number())) };
         assert_eq!(read_field(&row.bytes, 0), wanted.map(|()| (field, size)), "{}", row.text);
@@ -64,7 +65,7 @@ fn fields_are_read_and_written() {
 
 #[test]
 fn what_is_no_field_is_refused() {
-    for row in rows("heads", 35) {
+    for row in rows("heads", 50) {
         let wanted = Err(reason(row.number()));
         assert_eq!(read_field(&row.bytes, row.numbers[1] as usize), wanted, "{}", row.text);
     }
@@ -72,7 +73,7 @@ fn what_is_no_field_is_refused() {
 
 #[test]
 fn refused_sheets_have_their_reason_and_byte() {
-    for row in rows("sheets", 50) {
+    for row in rows("sheets", 130) {
         let refusal = Refusal { reason: reason(row.number()), byte: row.numbers[1] as usize };
         assert_eq!(judge(&row.bytes), Err(refusal), "{}", row.text);
         assert_eq!(answers(&row.bytes), Err(refusal), "{}", row.text);
@@ -83,7 +84,7 @@ fn refused_sheets_have_their_reason_and_byte() {
 
 #[test]
 fn accepted_sheets_have_their_answers() {
-    for row in rows("answers", 20) {
+    for row in rows("answers", 50) {
         let wanted = std::array::from_fn(|k| answer_of(&row.numbers[3 * k..]));
         assert_eq!(judge(&row.bytes), Ok(()), "{}", row.text);
         assert_eq!(answers(&row.bytes), Ok(wanted), "{}", row.text);
@@ -126,9 +127,9 @@ fn the_longest_tapes_have_room() {
     let (tape, sheet) = (nickel_tape_of(74_884, 11), nickel_of(74_884, 11));
     assert!(tape_to_sheet(&tape).as_ref() == Ok(&sheet) && sheet_to_tape(&sheet).as_ref() == Ok(&tape));
     let widest =
-        format!("METAL,Aluminium,2047\n{}", "86399999,Cash-M1,TRADE,-99999.99,10000\n".repeat(74_897));
+        format!("METAL,Aluminium,2047,2\n{}", "86399999,Cash-M1,TRADE,-99999.99,10000\n".repeat(74_897));
     let sheet = tape_to_sheet(widest.as_bytes()).expect("a sheet");
-    assert_eq!(sheet.len(), 1_048_571);
+    assert_eq!(sheet.len(), 1_048_572);
     assert!(sheet_to_tape(&sheet).is_ok_and(|tape| tape == widest.as_bytes() && tape.len() < LONGEST_TAPE));
     let quotes = format!("METAL,Zinc,0\n{}", "0,3M,QUOTE,-,-\n".repeat(1_000));
     assert_eq!(tape_to_sheet(quotes.as_bytes()).map(|sheet| sheet.len()), Ok(17_013));
@@ -180,6 +181,27 @@ fn the_nickel_sheet_is_written_judged_priced_and_listed() -> Result<(), Box<dyn 
 }
 
 #[test]
+fn a_long_header_names_the_contract_that_is_3m_and_bars_instruments() -> Result<(), Box<dyn Error>> {
+    let fields = [
+        Field::LongHeader { metal: 1, marks: 0, third: 1 },
+        Field::PreviousClose { instrument: 3, cents: 10 },
+        Field::Trade { time: 58_500_000, instrument: 0, cents: 1_800_040, lots: 6 },
+        Field::End { count: 3 },
+    ];
+    let mut sheet = [0; 36];
+    let at = fields.iter().try_fold(0, |at, field| write_field(&mut sheet, at, field))?;
+    assert_eq!((at, read_field(&sheet, 0)?), (36, (fields[0], 7)));
+    let vwap = Answer::Priced { method: Method::Vwap, cents: 1_800_000, lots: 6 };
+    let [three_months, m3, m2, ..] = answers(&sheet)?;
+    assert_eq!((three_months, m3), (vwap, vwap));
+    assert_eq!(m2, Answer::Priced { method: Method::Twap, cents: 1_800_010, lots: 0 });
+    assert_eq!(sheet_to_tape(&sheet)?, b"METAL,Nickel,0,1\nPREV,M2-M3,0.10\n58500000,3M,TRADE,18000.40,6\n");
+    write_field(&mut sheet, 7, &Field::PreviousClose { instrument: 2, cents: 10 })?;
+    assert_eq!(judge(&sheet), Err(Refusal { reason: Reason::Barred, byte: 7 }));
+    Ok(())
+}
+
+#[test]
 fn no_bytes_at_all_are_lent_without_a_null_pointer() {
     let missing = Refusal { reason: Reason::BytesMissing, byte: 0 };
     assert_eq!(judge(&[]), Err(missing));
@@ -217,13 +239,13 @@ fn threads_may_ask_at_once_of_one_sheet() {
 
 #[test]
 fn reasons_are_the_sheets_numbers_and_have_words() {
-    for number in 1..=17 {
+    for number in 1..=18 {
         assert_eq!(reason(number).number(), number);
         assert!(reason(number).to_string().ends_with(&format!(" ({number})")));
     }
-    assert_eq!((Reason::from_number(0), Reason::from_number(18)), (None, None));
+    assert_eq!((Reason::from_number(0), Reason::from_number(19)), (None, None));
     let refusal = judge(&[9, 0, 0]).expect_err("no tag");
-    assert_eq!(refusal.to_string(), "refused at byte 0: the tag is not 1 to 5 (3)");
+    assert_eq!(refusal.to_string(), "refused at byte 0: the tag is not 1 to 6 (3)");
     assert_eq!(refusal.source().map(ToString::to_string), Some(Reason::Tag.to_string()));
 }
 

@@ -4,6 +4,7 @@
 use crate::draft::end;
 use crate::field::{encode, length_of_tag, HEAD};
 use crate::generator::accepted_fields;
+use crate::generator::values::any_header;
 use crate::random::Random;
 
 /// A field's bytes, whole or damaged.
@@ -37,7 +38,7 @@ pub fn several_faults(random: &mut Random) -> Vec<u8> {
 fn disturb_any(random: &mut Random, pieces: &mut Vec<Piece>) {
     let index = random.index(pieces.len());
     let other = random.index(pieces.len());
-    match random.below(9) {
+    match random.below(10) {
         0 => pieces.swap(index, other),
         1 => pieces.insert(other, pieces[index].clone()),
         2 => drop(pieces.remove(index)),
@@ -45,6 +46,7 @@ fn disturb_any(random: &mut Random, pieces: &mut Vec<Piece>) {
             let count = random.pick(&[index as u32, pieces.len() as u32]);
             pieces.insert(index, encode(&end(count)));
         }
+        4 => pieces.insert(index, encode(&any_header(random))),
         _ => disturb_piece(random, &mut pieces[index]),
     }
 }
@@ -52,9 +54,9 @@ fn disturb_any(random: &mut Random, pieces: &mut Vec<Piece>) {
 /// One fault in a field: its head, its length in bytes, or one of its values.
 fn disturb_piece(random: &mut Random, piece: &mut Piece) {
     match random.below(12) {
-        0 => overwrite(random, piece, 0, &[&[0], &[6], &[7], &[9], &[255]]),
-        1 => overwrite(random, piece, 0, &[&[1], &[2], &[3], &[4], &[5]]),
-        2 => overwrite(random, piece, 1, &[&[1], &[255], &[0, 0], &[0, 4], &[0, 12]]),
+        0 => overwrite(random, piece, 0, &[&[0], &[7], &[8], &[9], &[255]]),
+        1 => overwrite(random, piece, 0, &[&[1], &[2], &[3], &[4], &[5], &[6]]),
+        2 => overwrite(random, piece, 1, &[&[1], &[255], &[0, 0], &[0, 3], &[0, 4], &[0, 12]]),
         3 => piece.truncate(random.index(piece.len() + 1)),
         4 => piece.push(random.draw() as u8),
         _ => disturb_value(random, piece),
@@ -69,7 +71,9 @@ fn overwrite(random: &mut Random, piece: &mut Piece, from: usize, choices: &[&[u
     }
 }
 
-const INSTRUMENTS: [&[u8]; 6] = [&[0], &[1], &[11], &[12], &[200], &[255]];
+/// The ends of the range, and the instruments that a long header may bar.
+const INSTRUMENTS: [&[u8]; 12] =
+    [&[0], &[1], &[2], &[4], &[5], &[6], &[9], &[10], &[11], &[12], &[200], &[255]];
 
 /// Times 0, 1, 86,399,999, 86,400,000, the greatest, and Copper's anchor start.
 const TIMES: [&[u8]; 6] = [
@@ -100,14 +104,17 @@ const LOTS: [&[u8]; 5] = [&[0, 0], &[0, 1], &[0x27, 0x10], &[0x27, 0x11], &[255,
 
 const SIDES: [&[u8]; 7] = [&[0], &[1], &[2], &[3], &[4], &[7], &[255]];
 
+const THIRDS: [&[u8]; 6] = [&[0], &[1], &[2], &[3], &[4], &[255]];
+
 const COUNTS: [&[u8]; 4] = [&[0, 0, 0, 0], &[0, 0, 0, 1], &[0, 0, 0, 9], &[1, 0, 0, 0]];
 
 /// One of the field's values becomes one at or behind the end of its range.
 fn disturb_value(random: &mut Random, piece: &mut Piece) {
     let value = random.below(5);
     match (piece.first(), value) {
-        (Some(1), 0..=2) => overwrite(random, piece, 3, &[&[0], &[1], &[5], &[6], &[255]]),
-        (Some(1), _) => overwrite(random, piece, 4, &[&[7, 255], &[8, 0], &[255, 255]]),
+        (Some(6), 0..=1) => overwrite(random, piece, 6, &THIRDS),
+        (Some(1 | 6), 0..=2) => overwrite(random, piece, 3, &[&[0], &[1], &[5], &[6], &[255]]),
+        (Some(1 | 6), _) => overwrite(random, piece, 4, &[&[7, 255], &[8, 0], &[255, 255]]),
         (Some(2), 0..=1) => overwrite(random, piece, 3, &INSTRUMENTS),
         (Some(2), _) => overwrite(random, piece, 4, &PRICES),
         (Some(3 | 4), 0) => overwrite(random, piece, 3, &TIMES),
@@ -148,7 +155,7 @@ pub fn garbage(random: &mut Random) -> Vec<u8> {
         return sheet;
     }
     for _ in 0..random.between(1, 6) {
-        let tag = random.between(1, 5) as u8;
+        let tag = random.between(1, 6) as u8;
         let length = length_of_tag(tag).unwrap_or(0);
         sheet.extend([tag, 0, length as u8]);
         let small = random.chance(50);

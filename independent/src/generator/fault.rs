@@ -1,12 +1,16 @@
 //! Accepted sheets with one fault put in, so that the number and the byte of
 //! the refusal are known from how the sheet was made.
 
-use crate::draft::{close, end, header, quote, sheet_of, start_of, trade};
-use crate::field::{encode, Field, Quote, BID, OFFER};
-use crate::generator::accepted_fields;
+use crate::draft::{close, end, quote, sheet_of, start_of, trade};
+use crate::field::{encode, Field, Header, Quote, BID, OFFER};
 use crate::generator::sized::sized_sheet;
+use crate::generator::values::any_header;
+use crate::generator::{accepted_fields, accepted_fields_with};
 use crate::random::Random;
-use crate::tables::{ALL_MARKS, GREATEST_LOTS, GREATEST_OUTRIGHT, GREATEST_SPREAD, LAST_TIME, SHEET_LIMIT};
+use crate::tables::{
+    allowed_instruments, barred_instruments, ALL_MARKS, GREATEST_LOTS, GREATEST_OUTRIGHT, GREATEST_SPREAD,
+    LAST_TIME, SHEET_LIMIT,
+};
 
 /// A faulty sheet with the refusal it was made for.
 #[derive(Clone, Debug)]
@@ -16,13 +20,16 @@ pub struct Faulty {
     pub byte: usize,
 }
 
-/// A sheet made to be refused with this number, 1 to 12. (Other numbers are
-/// taken as 12.)
+/// A sheet made to be refused with this number, 1 to 12 or 18. (Other numbers
+/// are taken as 12.)
 pub fn sheet_with_fault(random: &mut Random, number: u8) -> Faulty {
     if number == 1 {
         let bytes = SHEET_LIMIT + 1 + random.index(100);
         let sheet = sized_sheet(random, bytes).unwrap_or_default();
         return faulty(sheet, 1, 0);
+    }
+    if number == 18 {
+        return barred_field(random);
     }
     let fields = accepted_fields(random);
     match number {
@@ -42,6 +49,19 @@ pub fn sheet_with_fault(random: &mut Random, number: u8) -> Faulty {
 
 fn faulty(sheet: Vec<u8>, number: u8, byte: usize) -> Faulty {
     Faulty { sheet, number, byte }
+}
+
+/// The header's byte.
+fn third_of(fields: &[Field]) -> Option<u8> {
+    match fields.first() {
+        Some(Field::Header(header)) => header.third,
+        _ => None,
+    }
+}
+
+/// An instrument that the header does not bar.
+fn allowed(random: &mut Random, fields: &[Field]) -> u8 {
+    random.pick(&allowed_instruments(third_of(fields)))
 }
 
 /// The time of the record at this index, none for other fields.
@@ -90,8 +110,8 @@ fn cut_short(random: &mut Random, fields: Vec<Field>) -> Faulty {
 fn wrong_tag(random: &mut Random, fields: Vec<Field>) -> Faulty {
     let start = start_of(&fields, random.index(fields.len()));
     let mut sheet = sheet_of(&fields);
-    let other = random.between(6, 255) as u8;
-    sheet[start] = random.pick(&[0, 6, 7, 255, other]);
+    let other = random.between(7, 255) as u8;
+    sheet[start] = random.pick(&[0, 7, 7, 255, other]);
     faulty(sheet, 3, start)
 }
 
@@ -104,11 +124,12 @@ fn wrong_length(random: &mut Random, fields: Vec<Field>) -> Faulty {
     faulty(sheet, 4, start)
 }
 
-/// 5: a field where it may not stand, or bytes behind the end.
+/// 5: a field where it may not stand, a second header of either form among them,
+/// or bytes behind the end.
 fn out_of_place(random: &mut Random, mut fields: Vec<Field>) -> Faulty {
     let index = 1 + random.index(fields.len() - 1);
     match random.below(6) {
-        0 => put_in(fields, index, header(random.below(9) as u8, 0), 5),
+        0 => put_in(fields, index, any_header(random), 5),
         1 => {
             fields.remove(0);
             faulty(sheet_of(&fields), 5, 0)
@@ -133,7 +154,7 @@ fn out_of_place(random: &mut Random, mut fields: Vec<Field>) -> Faulty {
 fn close_behind_record(random: &mut Random, mut fields: Vec<Field>) -> Faulty {
     let first = first_record(&fields);
     if time_of(&fields[first]).is_none() {
-        fields.insert(first, quote(LAST_TIME, 2, 0, 0, 0));
+        fields.insert(first, quote(LAST_TIME, 3, 0, 0, 0));
     }
     let behind = first + 1 + random.index(fields.len() - first - 1);
     put_in(fields, behind, close(random.below(14) as u8, 5), 5)
@@ -142,7 +163,7 @@ fn close_behind_record(random: &mut Random, mut fields: Vec<Field>) -> Faulty {
 fn close_not_rising(random: &mut Random, mut fields: Vec<Field>) -> Faulty {
     let last = first_record(&fields) - 1;
     if !matches!(fields[last], Field::PreviousClose(_)) {
-        fields.insert(last + 1, close(6, 0));
+        fields.insert(last + 1, close(7, 0));
     }
     let closes = first_record(&fields) - 1;
     let behind = 1 + random.index(closes);
@@ -153,15 +174,21 @@ fn close_not_rising(random: &mut Random, mut fields: Vec<Field>) -> Faulty {
     put_in(fields, behind + 1, close(instrument, 1), 5)
 }
 
-/// 6: the header's metal or marks.
+/// 6: the header's metal, its marks, or a long one's byte.
 fn wrong_header(random: &mut Random, mut fields: Vec<Field>) -> Faulty {
-    let other = random.between(6, 255) as u8;
-    fields[0] = if random.chance(50) {
-        header(random.pick(&[0, 6, 255, other]), 0)
-    } else {
-        let high = 1 << random.between(11, 15);
-        header(1, high | (random.draw() as u16 & ALL_MARKS))
-    };
+    let mut wrong = Header { metal: 1, marks: 0, third: third_of(&fields) };
+    match random.below(3) {
+        0 => {
+            let other = random.between(6, 255) as u8;
+            wrong.metal = random.pick(&[0, 6, 255, other]);
+        }
+        1 => wrong.marks = 1 << random.between(11, 15) | (random.draw() as u16 & ALL_MARKS),
+        _ => {
+            let other = random.between(3, 255) as u8;
+            wrong.third = Some(random.pick(&[3, 255, other]));
+        }
+    }
+    fields[0] = Field::Header(wrong);
     faulty(sheet_of(&fields), 6, 0)
 }
 
@@ -180,17 +207,53 @@ fn wrong_instrument(random: &mut Random, fields: Vec<Field>) -> Faulty {
     }
 }
 
-/// 8: a time above the range or below the one before.
-fn wrong_time(random: &mut Random, fields: Vec<Field>) -> Faulty {
+/// 18: a field on an instrument that its header bars, of each kind as often; half
+/// of them have more wrong, of what is judged behind 18.
+fn barred_field(random: &mut Random) -> Faulty {
+    let third = Some(random.pick(&[1, 2]));
+    let fields = accepted_fields_with(random, third);
+    let instrument = random.pick(barred_instruments(third));
     let (index, before) = record_place(random, &fields);
-    let time = if before > 0 && random.chance(60) {
+    let more = random.chance(50);
+    let time = if more { time_outside(random, before) } else { before };
+    let price = if more { price_outside(random, instrument) } else { 0 };
+    match random.below(3) {
+        0 => {
+            let lower = |field: &&Field| match field {
+                Field::Header(_) => true,
+                Field::PreviousClose(close) => close.instrument < instrument,
+                _ => false,
+            };
+            let index = fields.iter().take_while(lower).count();
+            put_in(fields, index, close(instrument, price), 18)
+        }
+        1 => {
+            let lots = if more { random.pick(&[0, 1, GREATEST_LOTS + 1]) } else { 1 };
+            put_in(fields, index, trade(time, instrument, price, lots), 18)
+        }
+        _ => {
+            let sides = if more { random.below(6) as u8 } else { BID };
+            put_in(fields, index, quote(time, instrument, sides, price, 0), 18)
+        }
+    }
+}
+
+/// A time above the range, or below the one before.
+fn time_outside(random: &mut Random, before: u32) -> u32 {
+    if before > 0 && random.chance(60) {
         let any = random.time(0, before - 1);
         random.pick(&[before - 1, 0, any])
     } else {
         let any = random.time(LAST_TIME + 1, u32::MAX);
         random.pick(&[LAST_TIME + 1, u32::MAX, any])
-    };
-    let instrument = random.between(1, 11) as u8;
+    }
+}
+
+/// 8: a time above the range or below the one before.
+fn wrong_time(random: &mut Random, fields: Vec<Field>) -> Faulty {
+    let (index, before) = record_place(random, &fields);
+    let time = time_outside(random, before);
+    let instrument = allowed(random, &fields);
     if random.chance(50) {
         put_in(fields, index, trade(time, instrument, 0, 1), 8)
     } else {
@@ -212,7 +275,8 @@ fn price_outside(random: &mut Random, instrument: u8) -> i32 {
 
 /// 9: a price out of range in a close, a trade or a present side.
 fn wrong_price(random: &mut Random, mut fields: Vec<Field>) -> Faulty {
-    let instrument = random.pick(&[0, 0, 1, 5, 11]);
+    let any = allowed(random, &fields);
+    let instrument = random.pick(&[0, 0, 3, 11, any]);
     let price = price_outside(random, instrument);
     let (index, time) = record_place(random, &fields);
     let closes = first_record(&fields) - 1;
@@ -233,7 +297,7 @@ fn wrong_price(random: &mut Random, mut fields: Vec<Field>) -> Faulty {
 /// 10: lots 0 or above 10,000.
 fn wrong_lots(random: &mut Random, fields: Vec<Field>) -> Faulty {
     let (index, time) = record_place(random, &fields);
-    let instrument = random.below(12) as u8;
+    let instrument = allowed(random, &fields);
     let any = random.between(i64::from(GREATEST_LOTS) + 1, 65_535) as u16;
     let lots = random.pick(&[0, GREATEST_LOTS + 1, 65_535, any]);
     put_in(fields, index, trade(time, instrument, 1, lots), 10)
@@ -250,7 +314,7 @@ fn wrong_sides(random: &mut Random, fields: Vec<Field>) -> Faulty {
         3 => (OFFER, -1, bid),
         _ => (BID | OFFER, bid, bid - 1),
     };
-    let wrong = Field::Quote(Quote { time, instrument: random.below(12) as u8, sides, bid, offer });
+    let wrong = Field::Quote(Quote { time, instrument: allowed(random, &fields), sides, bid, offer });
     put_in(fields, index, wrong, 11)
 }
 

@@ -26,12 +26,20 @@ pub fn accepted_sheet(random: &mut Random) -> Vec<u8> {
     sheet_of(&accepted_fields(random))
 }
 
+/// The same with this byte in its header.
+fn accepted_fields_with(random: &mut Random, third: Option<u8>) -> Vec<Field> {
+    ended(&Scene::random_with(random, third).fields())
+}
+
+/// The numbers of a sheet that take no more than a few fields.
+const FAULTS: [u8; 12] = [2, 3, 4, 5, 6, 7, 8, 9, 10, 11, 12, 18];
+
 /// A random sheet with something wrong, most of the time: one known fault,
 /// several faults, damaged bytes, or no sheet at all.
 pub fn damaged_sheet(random: &mut Random) -> Vec<u8> {
     match random.below(10) {
         0..=3 => {
-            let number = random.between(2, 12) as u8;
+            let number = random.pick(&FAULTS);
             sheet_with_fault(random, number).sheet
         }
         4..=6 => several_faults(random),

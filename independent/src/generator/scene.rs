@@ -1,13 +1,13 @@
 //! A random accepted day: each contract gets an activity of its own, aimed at
 //! one of the lines that RULES and SHEET draw.
 
-use crate::draft::{close, header, record_field};
-use crate::field::{Field, Quote, Trade, BID, OFFER};
+use crate::draft::{close, record_field};
+use crate::field::{Field, Header, Quote, Trade, BID, OFFER};
 use crate::random::Random;
 use crate::sheet::Record;
 use crate::tables::{
-    window_start, Metal, ALL_MARKS, CONTRACTS, GREATEST_LOTS, GREATEST_OUTRIGHT, GREATEST_SPREAD, LAST_TIME,
-    LEAST_OUTRIGHT, METALS, WINDOW,
+    allowed_instruments, window_start, Metal, ALL_MARKS, CONTRACTS, GREATEST_LOTS, GREATEST_OUTRIGHT,
+    GREATEST_SPREAD, LAST_TIME, LEAST_OUTRIGHT, METALS, WINDOW,
 };
 
 /// What happens in one contract's instruments.
@@ -52,12 +52,22 @@ const ACTIVITIES: [Activity; 16] = [
     Activity::TradeAtStart,
 ];
 
+/// A header's byte: a third of all headers are long, with each of 0, 1 and 2 as
+/// often.
+pub fn any_third(random: &mut Random) -> Option<u8> {
+    (random.below(3) == 0).then(|| random.below(3) as u8)
+}
+
 /// A day in the making.
 pub struct Scene<'a> {
     random: &'a mut Random,
     number: u8,
     metal: &'static Metal,
     marks: u16,
+    /// The byte of a long header; none for a short one.
+    third: Option<u8>,
+    /// The instruments that the header does not bar.
+    allowed: Vec<u8>,
     /// Outright prices lie around this one.
     base: i32,
     /// Spread prices lie between its negative and this.
@@ -69,7 +79,13 @@ pub struct Scene<'a> {
 impl<'a> Scene<'a> {
     /// A random day.
     pub fn random(random: &'a mut Random) -> Self {
-        let mut scene = Scene::empty(random);
+        let third = any_third(random);
+        Scene::random_with(random, third)
+    }
+
+    /// A random day whose header has this byte.
+    pub fn random_with(random: &'a mut Random, third: Option<u8>) -> Self {
+        let mut scene = Scene::empty_with(random, third);
         if scene.random.chance(8) {
             scene.fill_tiny();
         } else {
@@ -85,8 +101,14 @@ impl<'a> Scene<'a> {
         scene
     }
 
-    /// A day with a metal, marks and a level of prices, and nothing else.
+    /// A day with a header and a level of prices, and nothing else.
     pub fn empty(random: &'a mut Random) -> Self {
+        let third = any_third(random);
+        Scene::empty_with(random, third)
+    }
+
+    /// The same with this byte in its header.
+    pub fn empty_with(random: &'a mut Random, third: Option<u8>) -> Self {
         let number = random.between(1, METALS.len() as i64) as u8;
         let marks = match random.below(3) {
             0 => 0,
@@ -111,6 +133,8 @@ impl<'a> Scene<'a> {
             number,
             metal: &METALS[usize::from(number) - 1],
             marks,
+            third,
+            allowed: allowed_instruments(third),
             base,
             width,
             previous_closes: [None; 12],
@@ -123,7 +147,8 @@ impl<'a> Scene<'a> {
     pub fn fields(mut self) -> Vec<Field> {
         self.random.shuffle(&mut self.records);
         self.records.sort_by_key(Record::time);
-        let mut fields = vec![header(self.number, self.marks)];
+        let header = Header { metal: self.number, marks: self.marks, third: self.third };
+        let mut fields = vec![Field::Header(header)];
         for (instrument, price) in (0..).zip(self.previous_closes) {
             fields.extend(price.map(|price| close(instrument, price)));
         }
@@ -134,7 +159,7 @@ impl<'a> Scene<'a> {
     /// A day of a few fields.
     fn fill_tiny(&mut self) {
         for _ in 0..self.random.below(3) {
-            let instrument = self.random.below(12) as u8;
+            let instrument = self.random.pick(&self.allowed);
             self.set_close(instrument);
         }
         let count = self.random.between(0, 2);
@@ -149,7 +174,7 @@ impl<'a> Scene<'a> {
             3..=6 => (100, 100),
             _ => (100, 10),
         };
-        for instrument in 0..12 {
+        for instrument in self.allowed.clone() {
             let asked = CONTRACTS.iter().any(|row| row.twap_from == instrument);
             let percent = if asked { asked_for } else { others };
             if self.random.chance(percent) {
@@ -163,8 +188,18 @@ impl<'a> Scene<'a> {
         self.previous_closes[usize::from(instrument)] = Some(price);
     }
 
+    /// The contract's VWAP instruments that the header does not bar: none of the
+    /// contract that 3M is.
+    fn vwap_from(&self, contract: usize) -> Vec<u8> {
+        let from = CONTRACTS[contract].vwap_from.iter().copied();
+        from.filter(|instrument| self.allowed.contains(instrument)).collect()
+    }
+
     /// One contract's activity, and quotes of its TWAP instrument half the time.
     fn fill_contract(&mut self, contract: usize) {
+        if self.vwap_from(contract).is_empty() {
+            return;
+        }
         let activity =
             if self.random.chance(3) { Activity::TradeBehindStart } else { self.random.pick(&ACTIVITIES) };
         match activity {
@@ -191,11 +226,12 @@ impl<'a> Scene<'a> {
     /// Trades inside the window with this sum of lots, over any of the
     /// contract's instruments.
     fn split_lots(&mut self, contract: usize, lots: u64) {
+        let instruments = self.vwap_from(contract);
         let mut left = lots;
         while left > 0 {
             let most = left.min(u64::from(GREATEST_LOTS));
             let part = self.random.between(1, most as i64) as u16;
-            let instrument = self.random.pick(CONTRACTS[contract].vwap_from);
+            let instrument = self.random.pick(&instruments);
             let time = self.time_inside(instrument);
             let price = self.price(instrument);
             self.add_trade(time, instrument, price, part);
@@ -206,7 +242,8 @@ impl<'a> Scene<'a> {
     /// Equal lots one rounding step apart, or one trade on the middle of a
     /// step; now and then moved off the half by one lot or one cent.
     fn half_vwap(&mut self, contract: usize) {
-        let instrument = self.random.pick(CONTRACTS[contract].vwap_from);
+        let instruments = self.vwap_from(contract);
+        let instrument = self.random.pick(&instruments);
         let (low, step) = self.stepped_price(instrument);
         let lots = self.random.between(3, 40) as u16;
         let off = self.random.pick(&[0, 0, 1]);
@@ -276,7 +313,8 @@ impl<'a> Scene<'a> {
     /// Trades at the first and last millisecond of both windows and just
     /// outside them.
     fn edges(&mut self, contract: usize) {
-        let instrument = self.random.pick(CONTRACTS[contract].vwap_from);
+        let instruments = self.vwap_from(contract);
+        let instrument = self.random.pick(&instruments);
         for start in [self.metal.spread_start, self.metal.anchor_start] {
             for time in [start - 1, start, start + WINDOW - 1, start + WINDOW] {
                 if self.random.chance(50) {
@@ -313,7 +351,7 @@ impl<'a> Scene<'a> {
     /// Records of any instrument at any time.
     pub fn add_noise(&mut self, count: i64) {
         for _ in 0..count {
-            let instrument = self.random.below(12) as u8;
+            let instrument = self.random.pick(&self.allowed);
             let time = self.any_time(instrument);
             if self.random.chance(50) {
                 self.add_random_quote(time, instrument);
@@ -326,7 +364,7 @@ impl<'a> Scene<'a> {
     /// Trades or quotes only, as many as asked for.
     pub fn add_kind(&mut self, trades: bool, count: usize) {
         for _ in 0..count {
-            let instrument = self.random.below(12) as u8;
+            let instrument = self.random.pick(&self.allowed);
             let time = self.any_time(instrument);
             if trades {
                 self.add_random_trade(time, instrument);
@@ -336,10 +374,13 @@ impl<'a> Scene<'a> {
         }
     }
 
-    /// Previous closes of the first instruments of the TWAP order.
+    /// Previous closes of the first instruments of the TWAP order that the header
+    /// does not bar.
     pub fn add_closes(&mut self, count: usize) {
-        for instrument in [0, 1, 3, 5, 7, 11, 2, 4, 6, 8, 9, 10].iter().take(count) {
-            self.set_close(*instrument);
+        let mut order = vec![0, 1, 3, 5, 7, 11, 2, 4, 6, 8, 9, 10];
+        order.retain(|instrument| self.allowed.contains(instrument));
+        for instrument in order.into_iter().take(count) {
+            self.set_close(instrument);
         }
     }
 

@@ -1,8 +1,8 @@
 //! Single fields whose values lie at, in or behind the ends of their ranges,
 //! for comparing readers and writers of one field.
 
-use crate::draft::{close, end, header, quote, trade};
-use crate::field::Field;
+use crate::draft::{close, end, quote, trade};
+use crate::field::{Field, Header};
 use crate::random::Random;
 use crate::tables::{GREATEST_LOTS, GREATEST_OUTRIGHT, GREATEST_SPREAD, LAST_TIME};
 
@@ -60,14 +60,21 @@ fn quote_values(random: &mut Random) -> Field {
     quote(time(random), instrument(random), sides, bid, offer)
 }
 
+/// A header of either form; the byte of a long one is good half the time.
+pub(super) fn any_header(random: &mut Random) -> Field {
+    let metal = random.between(0, 6) as u8;
+    let any = random.draw() as u16;
+    let marks = random.pick(&[0, 0x07FF, 0x0800, 1, any & 0x07FF, any]);
+    let any = random.draw() as u8;
+    let byte = random.pick(&[0, 1, 2, 3, 255, any]);
+    let third = random.chance(50).then_some(byte);
+    Field::Header(Header { metal, marks, third })
+}
+
 /// A field of any kind; about half of them would be refused.
 pub fn any_field(random: &mut Random) -> Field {
     match random.below(5) {
-        0 => {
-            let metal = random.between(0, 6) as u8;
-            let any = random.draw() as u16;
-            header(metal, random.pick(&[0, 0x07FF, 0x0800, 1, any & 0x07FF, any]))
-        }
+        0 => any_header(random),
         1 => close(instrument(random), price(random)),
         2 => trade(time(random), instrument(random), price(random), lots(random)),
         3 => quote_values(random),

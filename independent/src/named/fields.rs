@@ -19,8 +19,8 @@ pub(super) fn cases() -> Vec<NamedCase> {
 }
 
 fn heads() -> Vec<NamedCase> {
-    let tag_6 = vec![6, 0, 4, 1, 0, 0, 0, 5, 0, 4, 0, 0, 0, 1];
     let tag_7 = vec![7, 0, 4, 1, 0, 0, 0, 5, 0, 4, 0, 0, 0, 1];
+    let window = vec![7, 0, 6, 3, 0x78, 0x0F, 0xC0, 0, 1, 5, 0, 4, 0, 0, 0, 1];
     vec![
         refused("A1 one byte that is no tag", vec![9], 2, 0),
         refused("A1 two bytes, no tag", vec![9, 0], 2, 0),
@@ -30,9 +30,9 @@ fn heads() -> Vec<NamedCase> {
         refused("tag 9, wrong length, cut", behind_header(&[9, 0, 11]), 3, 6),
         refused("tag 0", vec![0, 0, 3, 1, 0, 0], 3, 0),
         refused("tag 255", behind_header(&[255, 0, 3, 1, 0, 0]), 3, 6),
-        refused("A13 tag 6", tag_6, 3, 0),
         refused("A13 tag 7", tag_7, 3, 0),
-        refused("A13 tag 6 behind a header", behind_header(&[6, 0, 4]), 3, 6),
+        refused("A13 tag 7 with a time and lots", window, 3, 0),
+        refused("A13 tag 7 behind a header", behind_header(&[7, 0, 4]), 3, 6),
     ]
 }
 

@@ -1,11 +1,12 @@
 //! The longest sheets: 1,048,576 bytes of trades of 10,000 lots at the ends of
 //! the price range, with one contract's average on a half of its step and just
 //! below it. Each has a header (6 bytes), 2 previous closes (8 each), 74,895
-//! trades (14 each), a quote (17) and an end (7). Every sum of lots times price
-//! is above 2^56, which is 72,057,594,037,927,936.
+//! trades (14 each), a quote (17) and an end (7), or a long header (7), 4 closes,
+//! 74,895 trades and an end. Every sum of lots times price is above 2^56, which is
+//! 72,057,594,037,927,936.
 
-use super::{case, copper_until, lines, NamedCase, ANCHOR, COPPER, SPREAD};
-use crate::draft::{close, ended_sheet, header, quote, trade};
+use super::{case, copper, copper_until, lines, NamedCase, ANCHOR, COPPER, SPREAD};
+use crate::draft::{close, ended_sheet, header, long_header, quote, trade};
 use crate::field::Field;
 
 pub(super) fn cases() -> Vec<NamedCase> {
@@ -13,6 +14,7 @@ pub(super) fn cases() -> Vec<NamedCase> {
     cases.extend(outright_in_nickel());
     cases.extend(m3());
     cases.extend(m4());
+    cases.extend(m3_named());
     cases
 }
 
@@ -28,12 +30,16 @@ fn sheet_of_trades(metal: u8, closed: [u8; 2], trades: &[Field], last: u32) -> V
     ended_sheet(&fields)
 }
 
-/// 74,894 trades of 3M at 99,999,999 and the last at this price; M3-3M and
-/// M2-M3 closed at 0.
-fn outright(metal: u8, anchor: u32, last: i32) -> Vec<u8> {
+/// 74,894 trades of 3M at 99,999,999 and the last at this price.
+fn trades_of_3m(anchor: u32, last: i32) -> Vec<Field> {
     let mut trades = vec![trade(anchor, 0, 99_999_999, LOTS); TRADES - 1];
     trades.push(trade(anchor + 299_999, 0, last, LOTS));
-    sheet_of_trades(metal, [1, 3], &trades, anchor + 299_999)
+    trades
+}
+
+/// These trades, with M3-3M and M2-M3 closed at 0.
+fn outright(metal: u8, anchor: u32, last: i32) -> Vec<u8> {
+    sheet_of_trades(metal, [1, 3], &trades_of_3m(anchor, last), anchor + 299_999)
 }
 
 /// At 99,999,925 the average is on the half of 50: the last trade lacks
@@ -105,5 +111,25 @@ fn m4() -> Vec<NamedCase> {
     vec![
         case("C13 the longest sheet, M4 on half a cent", sheet(9_999_902), &list("99999999")),
         case("C13 the longest sheet, M4 just below it", sheet(9_999_903), &list("99999998")),
+    ]
+}
+
+/// 3M on the half of 50 as above, and M3 with it, all of its lots too; M2-M3,
+/// M3-M4, M1-M2 and Cash-M1 are closed at 0.
+fn m3_named() -> Vec<NamedCase> {
+    let list = |price: &str| {
+        let taken = format!("VWAP {price} 748950000");
+        let rest = format!("TWAP {price} 0");
+        copper([&taken, &taken, &rest, &rest, &rest, &rest])
+    };
+    let sheet = |last: i32| {
+        let mut fields = vec![long_header(COPPER, 0, 1)];
+        fields.extend([3, 5, 7, 11].map(|spread| close(spread, 0)));
+        fields.extend(trades_of_3m(ANCHOR, last));
+        ended_sheet(&fields)
+    };
+    vec![
+        case("I9 the longest sheet, M3 on the half of 50 with 3M", sheet(94_457_769), &list("99999950")),
+        case("I9 the longest sheet, M3 just below it with 3M", sheet(94_457_768), &list("99999900")),
     ]
 }

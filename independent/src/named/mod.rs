@@ -2,6 +2,7 @@
 //! (docs/RULES.md, docs/SHEET.md). A name begins with its label of
 //! docs/CASES.md where there is one.
 
+mod barred;
 mod edges;
 mod fields;
 mod longest;
@@ -11,11 +12,13 @@ mod pricing;
 mod resting;
 mod signs;
 pub mod tapes;
+mod third;
 
 use crate::draft::{close, ended_sheet, header, quote, sheet_of, trade};
 use crate::field::Field;
 
-pub use papers::{copper_sheet, nickel_sheet, COPPER_LIST, NICKEL_LIST};
+pub use papers::{copper_sheet, nickel_sheet, third_wednesday_sheet};
+pub use papers::{COPPER_LIST, NICKEL_LIST, THIRD_WEDNESDAY_LIST};
 
 /// A sheet, and the closing list it must give.
 #[derive(Clone, Debug)]
@@ -117,6 +120,11 @@ fn flat_without(instrument: u8, records: &[Field]) -> Vec<u8> {
     ended_sheet(&fields)
 }
 
+/// A sheet with a short header, that header made a long one with this byte.
+fn with_byte(sheet: &[u8], third: u8) -> Vec<u8> {
+    [&[6, 0, 4], &sheet[3..6], &[third], &sheet[6..]].concat()
+}
+
 /// The list of a Copper sheet in which nothing has a price.
 fn nothing() -> String {
     copper_until(&["refused 13 0"])
@@ -131,6 +139,8 @@ pub fn named_cases() -> Vec<NamedCase> {
     cases.extend(signs::cases());
     cases.extend(pricing::cases());
     cases.extend(resting::cases());
+    cases.extend(barred::cases());
+    cases.extend(third::cases());
     cases.extend(papers::cut_nickel_sheets());
     cases.extend(at_the_lists_limit());
     cases
@@ -175,5 +185,7 @@ pub fn large_cases() -> Vec<NamedCase> {
         refused("B17 a bad first tag and 1,048,577 bytes", garbage, 1, 0),
     ];
     cases.extend(longest::cases());
+    let longer = with_byte(&full_sheet(74_883, 9), 0);
+    cases.push(refused("B17 the longest sheet with a long header", longer, 1, 0));
     cases
 }

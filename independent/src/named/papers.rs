@@ -1,8 +1,8 @@
-//! The two worked sheets: the Nickel sheet of SHEET 6 and the exchange's Copper
-//! example; and every way to cut the Nickel sheet short.
+//! The worked sheets: the Nickel sheet of SHEET 6, the exchange's Copper example,
+//! and a Copper day on which 3M is M3; and every way to cut the Nickel sheet short.
 
 use super::{case, refused, NamedCase};
-use crate::draft::{close, end, header, quote, sheet_of, trade};
+use crate::draft::{close, end, header, long_header, quote, sheet_of, trade};
 
 /// The list of the Nickel sheet, six prices under the metal's name (RULES 10).
 pub const NICKEL_LIST: &str = "\
@@ -74,10 +74,46 @@ pub fn copper_sheet() -> Vec<u8> {
     ])
 }
 
+/// A day like the exchange's 20 November 2018, when 3M was the third Wednesday
+/// of M3: 3M (5 lots at 7,004, 2 at 7,000) is 700,285.7 and so 700,300, and M3
+/// with it. M2-M3 is -400 for a minute, then -390: -392. M4 is 5 lots at 15
+/// above M3 and 2 at 9.50. M1 is 4 lots on M3 and 2 on M4. Cash-M1 is offered at
+/// -320 since noon, then -310 counts for as long: -315.
+pub const THIRD_WEDNESDAY_LIST: &str = "\
+Copper
+3M VWAP 700300 7
+M3 VWAP 700300 7
+M2 TWAP 699908 3
+M4 VWAP 701643 7
+M1 VWAP 699541 6
+Cash TWAP 699226 0
+";
+
+/// The sheet of that day, 179 bytes.
+pub fn third_wednesday_sheet() -> Vec<u8> {
+    sheet_of(&[
+        long_header(4, 0, 1),
+        close(3, -400),
+        close(11, -310),
+        quote(43_200_000, 11, 2, 0, -320),
+        trade(60_020_000, 5, -1_500, 5),
+        quote(60_060_000, 3, 3, -390, -370),
+        trade(60_080_000, 8, -760, 4),
+        trade(60_100_000, 10, -2_100, 2),
+        quote(60_150_000, 11, 3, -330, -300),
+        trade(60_180_000, 3, -390, 3),
+        trade(60_240_000, 5, -950, 2),
+        trade(60_300_000, 0, 700_400, 5),
+        trade(60_420_000, 0, 700_000, 2),
+        end(13),
+    ])
+}
+
 pub(super) fn cases() -> Vec<NamedCase> {
     vec![
         case("the Nickel sheet", nickel_sheet(), NICKEL_LIST),
         case("C18 the exchange's Copper example", copper_sheet(), COPPER_LIST),
+        case("I9 a Copper day on which 3M is M3", third_wednesday_sheet(), THIRD_WEDNESDAY_LIST),
         refused("B3 the empty sheet", Vec::new(), 2, 0),
     ]
 }

@@ -5,6 +5,9 @@ use borrow.Author.Needs.{needs}
 use Rattle.admit.proofs.admit_number.Statement.{statement}
 use Rattle.admit.proofs.admit_number.Tie as tie
 
+before-of-requires : tie.Need-before-of-requires
+before-of-requires c κs = search needs
+
 judge-requires : tie.Need-judge-requires
 judge-requires c κs = search needs
 
@@ -25,12 +28,13 @@ unless-requires-2 c κs = search needs
 
 returns : tie.Need-returns
 unfolding admitNumber
-returns c = c .unless2 .ensures ∙ rw (c .before .before .unless .ensures, c .before .before .before .is-placed .ensures, c .before .before .before .before .also .ensures, c .before .before .before .before .before .count-number .ensures, c .before .before .before .before .before .before .judge .ensures)
+returns c = c .unless2 .ensures ∙ rw (c .before .before .unless .ensures, c .before .before .before .is-placed .ensures, c .before .before .before .before .also .ensures, c .before .before .before .before .before .count-number .ensures, c .before .before .before .before .before .before .judge .ensures, c .before .before .before .before .before .before .before .before-of .ensures)
 
 pub admit-number-spec : {M : Type 1} → statement M
 admit-number-spec =
     tie.close
     (tie.spec
+    before-of-requires
     judge-requires
     count-number-requires
     also-requires

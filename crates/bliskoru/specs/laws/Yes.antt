@@ -11,7 +11,7 @@ use borrow.Author.Tests.{eqb-false}
 use lib.Dec.{leb, eqb}
 use lib.ListN.{length, length-append}
 use Rattle.field.specs.declared.Field.{Field}
-use Rattle.field.specs.Judging.{fine, judge}
+use Rattle.field.specs.Judging.{fine, alone, judge}
 use Rattle.field.specs.Said.{Said, gives, refuses, settled}
 use Rattle.field.specs.Reading.{shapeAt, judged, readField}
 use Rattle.field.specs.Writing.{written}
@@ -55,7 +55,7 @@ unfolding readField
 read-some s at m place e = by (shapeAt s at) refl
   where
     by : (x : Said Field) → shapeAt s at ≡ x → 0 < m
-    by (gives f next) h = settled-some (judge 0 f) at m place f next (sym (ap (judged at) h) ∙ e)
+    by (gives f next) h = settled-some (judge alone f) at m place f next (sym (ap (judged at) h) ∙ e)
     by (refuses n p) h =
         let g : refuses n p ≡ refuses m place = sym (ap (judged at) h) ∙ e in
         let same : n ≡ m = cc in
@@ -76,7 +76,7 @@ unfolding admit admitted
 stops-some p f n e = by (eqb (admitNumber p f) fine) refl
   where
     never : (f : Field) → admitted p f ≡ stops n → 0 < n
-    never (Header metal marks) h = clash cc
+    never (Header metal marks form) h = clash cc
     never (PreviousClose instrument price) h = clash cc
     never (Trade time instrument price lots) h = clash cc
     never (Quote time instrument sides bid offer) h = clash cc

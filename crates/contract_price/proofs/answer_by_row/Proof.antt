@@ -64,7 +64,7 @@ returns c =
     let k = t .before .before in
     let s = k .before .before .before .before in
     rw (step (c .before)) at (c .rounded .ensures)
-    ∙ row-is (now (s .args .sheet)) (bookOf (s .args .metal) (s .args .marks) (now (s .args .lots)) (now (s .args .values))) (s .pre .0 .ready) (now (s .args .closes)) (s .args .c) (s .pre .2)
+    ∙ row-is (now (s .args .sheet)) (bookOf (s .args .metal) (s .args .marks) 0 (now (s .args .lots)) (now (s .args .values))) (s .pre .0 .ready) (now (s .args .closes)) (s .args .c) (s .pre .2)
     (t .vwap-sum .ensures ∙ rw (row-of k))
     (m .mean-by-lots .ensures ∙ rw (row-of k))
 

@@ -12,7 +12,8 @@ use lib.IntN.{ℤ, pos, negsuc, negℤ}
 use lib.Signed.{leZ}
 use Rattle.field.specs.declared.Price.{Price}
 use Rattle.field.specs.declared.Field.the-variants.{Quote}
-use Rattle.field.specs.Judging.{fine, both, pick, centsWithin, instrumentRight, priceRight, judge}
+use Rattle.market.specs.Market.{isIn, barred}
+use Rattle.field.specs.Judging.{fine, both, pick, centsWithin, instrumentRight, priceRight, alone, judge}
 use Rattle.field.specs.laws.Field.{clash, both-true, both-holds}
 use Rattle.field.specs.laws.Sound.{SoundQuote, sound, judge-sound}
 
@@ -62,21 +63,21 @@ ends instrument price e = both-true (leZ (lowestPrice instrument .cents) (price 
 
 module _ (instrument : ℕ) (bid offer : Price) where
   -- of a quote whose sides byte says both, these are the tests
-  tested : SoundQuote 0 0 instrument 3 bid offer → ((priceRight instrument bid ≡ true) × (priceRight instrument offer ≡ true)) × (leZ (bid .cents) (offer .cents) ≡ true)
+  tested : SoundQuote alone 0 instrument 3 bid offer → ((priceRight instrument bid ≡ true) × (priceRight instrument offer ≡ true)) × (leZ (bid .cents) (offer .cents) ≡ true)
   unfolding pick both
   tested h = let u = both-true (priceRight instrument bid) (priceRight instrument offer) (h .prices-in) in (u, h .in-order)
 
-  passes : instrument ≤ 11 → priceRight instrument bid ≡ true → priceRight instrument offer ≡ true → leZ (bid .cents) (offer .cents) ≡ true → SoundQuote 0 0 instrument 3 bid offer
-  unfolding pick both
+  passes : instrument ≤ 11 → priceRight instrument bid ≡ true → priceRight instrument offer ≡ true → leZ (bid .cents) (offer .cents) ≡ true → SoundQuote alone 0 instrument 3 bid offer
+  unfolding pick both barred isIn
   passes i b o order =
       record {
-        stamp = record { instrument-in = i; in-day = omega arith; not-before = omega arith };
+        stamp = record { on = record { in-table = i; let-be = refl }; in-day = omega arith; not-before = omega arith };
         sides-in = refl;
         prices-in = both-holds (priceRight instrument bid) (priceRight instrument offer) b o;
         in-order = order;
       }
 
-  holds : bothSidesRight instrument bid offer ≡ true → SoundQuote 0 0 instrument 3 bid offer
+  holds : bothSidesRight instrument bid offer ≡ true → SoundQuote alone 0 instrument 3 bid offer
   holds e =
       let u = both-true (instrumentRight instrument) _ e in
       let v = both-true (leZ (lowestPrice instrument .cents) (bid .cents)) _ (u .1) in
@@ -85,15 +86,15 @@ module _ (instrument : ℕ) (bid offer : Price) where
       let high = le-through (bid .cents) (offer .cents) (highestPrice instrument .cents) (w .0) (w .1) in
       passes (leb-true instrument 11 (u .0)) (inside instrument bid (v .0) high) (inside instrument offer low (w .1)) (w .0)
 
-  held : SoundQuote 0 0 instrument 3 bid offer → bothSidesRight instrument bid offer ≡ true
+  held : SoundQuote alone 0 instrument 3 bid offer → bothSidesRight instrument bid offer ≡ true
   held h =
       let t = tested h in
-      both-holds _ _ (le-leb instrument 11 (h .stamp .instrument-in)) (both-holds _ _ (ends instrument bid (t .0 .0) .0) (both-holds _ _ (t .1) (ends instrument offer (t .0 .1) .1)))
+      both-holds _ _ (le-leb instrument 11 (h .stamp .on .in-table)) (both-holds _ _ (ends instrument bid (t .0 .0) .0) (both-holds _ _ (t .1) (ends instrument offer (t .0 .1) .1)))
 
   -- the judgement of a quote with both sides, its time put aside
-  pub both-sides : bothSidesRight instrument bid offer ≡ eqb (judge 0 (Quote 0 instrument 3 bid offer)) fine
+  pub both-sides : bothSidesRight instrument bid offer ≡ eqb (judge alone (Quote 0 instrument 3 bid offer)) fine
   both-sides = by-test (bothSidesRight instrument bid offer) refl
     where
-      by-test : (t : Bool) → bothSidesRight instrument bid offer ≡ t → t ≡ eqb (judge 0 (Quote 0 instrument 3 bid offer)) fine
-      by-test true e = sym (eq-eqb _ fine (judge-sound 0 (Quote 0 instrument 3 bid offer) (holds e)))
-      by-test false e = sym (ne-eqb _ fine (λ h. clash (let t = held (sound 0 (Quote 0 instrument 3 bid offer) h) in cc)))
+      by-test : (t : Bool) → bothSidesRight instrument bid offer ≡ t → t ≡ eqb (judge alone (Quote 0 instrument 3 bid offer)) fine
+      by-test true e = sym (eq-eqb _ fine (judge-sound alone (Quote 0 instrument 3 bid offer) (holds e)))
+      by-test false e = sym (ne-eqb _ fine (λ h. clash (let t = held (sound alone (Quote 0 instrument 3 bid offer) h) in cc)))

@@ -12,7 +12,9 @@ use lib.Seq.{length-take-le}
 use Rattle.wire.specs.Big.{be2At}
 use Rattle.field.specs.declared.Field.{Field}
 use Rattle.field.specs.declared.Field.the-variants.{Header, PreviousClose, Trade, Quote, End}
-use Rattle.field.specs.Judging.{fine, unless, also, both, within, judge}
+use Rattle.field.specs.declared.Form.the-variants.{Short, Long}
+use Rattle.field.specs.declared.Before.{Before}
+use Rattle.field.specs.Judging.{fine, unless, also, both, within, alone, judge}
 use Rattle.field.specs.Layout.{tagRight, lengthOf, sizeOf, tagOf, bodyBytes, fieldBytes, fieldOf}
 use Rattle.field.specs.Said.{Said, gives, refuses, settled}
 use Rattle.field.specs.Reading.{remaining, taggedNumber, headNumber, bodyAt, shapeAt, judged, readField, partOf, bodyOf}
@@ -53,13 +55,13 @@ also-all P first rest h r = by-test (eqb first fine)
     by-test false = h
 
 -- the numbers that values can earn, and those of a shape
-pub judge-all : (P : ℕ → Type 0) → P fine → P 6 → P 7 → P 8 → P 9 → P 10 → P 11 → (least : ℕ) (f : Field) → P (judge least f)
+pub judge-all : (P : ℕ → Type 0) → P fine → P 6 → P 7 → P 8 → P 9 → P 10 → P 11 → P 18 → (before : Before) (f : Field) → P (judge before f)
 unfolding judge
-judge-all P z p6 p7 p8 p9 p10 p11 least (Header metal marks) = unless-all P _ p6 z
-judge-all P z p6 p7 p8 p9 p10 p11 least (PreviousClose instrument price) = unless-all P _ p7 (unless-all P _ p9 z)
-judge-all P z p6 p7 p8 p9 p10 p11 least (Trade time instrument price lots) = unless-all P _ p7 (unless-all P _ p8 (unless-all P _ p9 (unless-all P _ p10 z)))
-judge-all P z p6 p7 p8 p9 p10 p11 least (Quote time instrument sides bid offer) = unless-all P _ p7 (unless-all P _ p8 (unless-all P _ p11 (unless-all P _ p9 (unless-all P _ p11 z))))
-judge-all P z p6 p7 p8 p9 p10 p11 least (End count) = z
+judge-all P z p6 p7 p8 p9 p10 p11 p18 before (Header metal marks form) = unless-all P _ p6 z
+judge-all P z p6 p7 p8 p9 p10 p11 p18 before (PreviousClose instrument price) = unless-all P _ p7 (unless-all P _ p18 (unless-all P _ p9 z))
+judge-all P z p6 p7 p8 p9 p10 p11 p18 before (Trade time instrument price lots) = unless-all P _ p7 (unless-all P _ p18 (unless-all P _ p8 (unless-all P _ p9 (unless-all P _ p10 z))))
+judge-all P z p6 p7 p8 p9 p10 p11 p18 before (Quote time instrument sides bid offer) = unless-all P _ p7 (unless-all P _ p18 (unless-all P _ p8 (unless-all P _ p11 (unless-all P _ p9 (unless-all P _ p11 z)))))
+judge-all P z p6 p7 p8 p9 p10 p11 p18 before (End count) = z
 
 pub head-all : (P : ℕ → Type 0) → P fine → P 2 → P 3 → P 4 → (s : List ℕ) (at tag : ℕ) → P (headNumber s at tag)
 unfolding headNumber
@@ -181,7 +183,7 @@ shaped s at f next e =
     record { head = headed s at tag (g .none); values = g .same; behind = g .place }
 
 -- what a read says, by the shape
-pub read-judged : (s : List ℕ) (at : ℕ) (f : Field) (next : ℕ) → shapeAt s at ≡ gives f next → readField s at ≡ settled (judge 0 f) at f next
+pub read-judged : (s : List ℕ) (at : ℕ) (f : Field) (next : ℕ) → shapeAt s at ≡ gives f next → readField s at ≡ settled (judge alone f) at f next
 unfolding readField
 read-judged s at f next e = ap (judged at) e
 
@@ -192,12 +194,12 @@ read-refused s at number place e = ap (judged at) e
 -- a field that is read has its shape, and its values earn no number
 pub record ReadOk (s : List ℕ) (at : ℕ) (f : Field) (next : ℕ) : Type 0 where
   pub shape : shapeAt s at ≡ gives f next
-  pub right : judge 0 f ≡ fine
+  pub right : judge alone f ≡ fine
 
-judged-gives : (at : ℕ) (x : Said Field) (f : Field) (next : ℕ) → judged at x ≡ gives f next → (x ≡ gives f next) × (judge 0 f ≡ fine)
+judged-gives : (at : ℕ) (x : Said Field) (f : Field) (next : ℕ) → judged at x ≡ gives f next → (x ≡ gives f next) × (judge alone f ≡ fine)
 judged-gives at (gives g behind) f next e =
-    let u = settled-gives (judge 0 g) at g f behind next e in
-    (simp (u .same, u .place), ap (judge 0) (sym (u .same)) ∙ u .none)
+    let u = settled-gives (judge alone g) at g f behind next e in
+    (simp (u .same, u .place), ap (judge alone) (sym (u .same)) ∙ u .none)
 judged-gives at (refuses number place) f next e = clash cc
 
 pub read-ok : (s : List ℕ) (at : ℕ) (f : Field) (next : ℕ) → readField s at ≡ gives f next → ReadOk s at f next
@@ -227,7 +229,8 @@ body-none s at number place e = ap (partOf s at) e
 
 pub body-length : (f : Field) → length (bodyBytes f) ≡ lengthOf (tagOf f)
 unfolding bodyBytes tagOf
-body-length (Header metal marks) = refl
+body-length (Header metal marks Short) = refl
+body-length (Header metal marks (Long third)) = refl
 body-length (PreviousClose instrument price) = refl
 body-length (Trade time instrument price lots) = refl
 body-length (Quote time instrument sides bid offer) = refl
@@ -238,13 +241,13 @@ field-length f = omega (arith, body-length f)
 
 -- a field that may be written: its values earn no number, and it fits behind the place
 pub record MayWrite (len at : ℕ) (f : Field) : Type 0 where
-  pub right : judge 0 f ≡ fine
+  pub right : judge alone f ≡ fine
   pub room : at + fieldSize f ≤ len
 
 pub may-write : (len at : ℕ) (f : Field) → writeNumber len at f ≡ fine → MayWrite len at f
 unfolding writeNumber
 may-write len at f e =
-    let u = also-fine (judge 0 f) _ e in
+    let u = also-fine (judge alone f) _ e in
     let v = unless-fine (leb (fieldSize f) (len - at)) 15 fine (u .1) in
     record { right = u .0; room = omega (arith, leb-true (fieldSize f) (len - at) (v .0)) }
 

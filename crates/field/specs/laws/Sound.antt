@@ -9,103 +9,128 @@ use borrow.Author.Tests.{leb-true, le-leb}
 use lib.Dec.{leb, eqb}
 use lib.IntN.{ℤ, pos, negsuc, negℤ, natAbs}
 use lib.Signed.{leZ}
+use Rattle.market.specs.Market.{isIn, barred}
 use Rattle.field.specs.declared.Price.{Price}
+use Rattle.field.specs.declared.Before.{Before}
 use Rattle.field.specs.declared.Field.{Field}
 use Rattle.field.specs.declared.Field.the-variants.{Header, PreviousClose, Trade, Quote, End}
-use Rattle.field.specs.Judging.{fine, pick, ifPresent, ifAbsent, within, centsWithin, headerRight, instrumentRight, timeRight, priceRight, lotsRight, hasBid, hasOffer, sidesRight, sidePricesRight, ordered, stamped, judge}
+use Rattle.field.specs.Judging.{fine, both, pick, ifPresent, ifAbsent, within, centsWithin, thirdOf, headerRight, instrumentRight, allowed, timeRight, priceRight, lotsRight, hasBid, hasOffer, sidesRight, sidePricesRight, ordered, onInstrument, stamped, alone, judge}
 use Rattle.field.specs.laws.Field.{clash, unless-fine, unless-passed, both-true, both-holds, within-true}
 
+-- an instrument: one of the twelve, and not barred
+pub record SoundOn (before : Before) (instrument : ℕ) : Type 0 where
+  pub in-table : instrument ≤ 11
+  pub let-be : allowed (before .third) instrument ≡ true
+
 -- a record's instrument and time
-pub record SoundStamp (least time instrument : ℕ) : Type 0 where
-  pub instrument-in : instrument ≤ 11
+pub record SoundStamp (before : Before) (time instrument : ℕ) : Type 0 where
+  pub on : SoundOn before instrument
   pub in-day : time ≤ 86399999
-  pub not-before : least ≤ time
+  pub not-before : before .time ≤ time
 
 -- a trade: its stamp, its price and its lots
-pub record SoundTrade (least time instrument : ℕ) (price : Price) (lots : ℕ) : Type 0 where
-  pub stamp : SoundStamp least time instrument
+pub record SoundTrade (before : Before) (time instrument : ℕ) (price : Price) (lots : ℕ) : Type 0 where
+  pub stamp : SoundStamp before time instrument
   pub price-in : priceRight instrument price ≡ true
   pub some : 1 ≤ lots
   pub most : lots ≤ 10000
 
 -- a quote: its stamp, its sides with absent zeros, its prices, and the bid not above the offer
-pub record SoundQuote (least time instrument sides : ℕ) (bid offer : Price) : Type 0 where
-  pub stamp : SoundStamp least time instrument
+pub record SoundQuote (before : Before) (time instrument sides : ℕ) (bid offer : Price) : Type 0 where
+  pub stamp : SoundStamp before time instrument
   pub sides-in : sidesRight sides bid offer ≡ true
   pub prices-in : sidePricesRight instrument sides bid offer ≡ true
   pub in-order : ordered sides bid offer ≡ true
 
--- the values of a field, each in its range, its time not below the least
-abbrev pub Sound : ℕ → Field → Type 0
-Sound least (Header metal marks) = headerRight metal marks ≡ true
-Sound least (PreviousClose instrument price) = (instrument ≤ 11) × (priceRight instrument price ≡ true)
-Sound least (Trade time instrument price lots) = SoundTrade least time instrument price lots
-Sound least (Quote time instrument sides bid offer) = SoundQuote least time instrument sides bid offer
-Sound least (End count) = Unit {0}
+-- the values of a field, each in its range, its instrument not barred and its time not below the least
+abbrev pub Sound : Before → Field → Type 0
+Sound before (Header metal marks form) = headerRight metal marks (thirdOf form) ≡ true
+Sound before (PreviousClose instrument price) = SoundOn before instrument × (priceRight instrument price ≡ true)
+Sound before (Trade time instrument price lots) = SoundTrade before time instrument price lots
+Sound before (Quote time instrument sides bid offer) = SoundQuote before time instrument sides bid offer
+Sound before (End count) = Unit {0}
 
-stamp-sound : (least time instrument rest : ℕ) → stamped least time instrument rest ≡ fine → SoundStamp least time instrument × (rest ≡ fine)
-stamp-sound least time instrument rest e =
+on-sound : (before : Before) (instrument rest : ℕ) → onInstrument before instrument rest ≡ fine → SoundOn before instrument × (rest ≡ fine)
+on-sound before instrument rest e =
     let u = unless-fine (instrumentRight instrument) 6 _ e in
-    let v = unless-fine (timeRight least time) 7 rest (u .1) in
-    let t = both-true (leb time 86399999) (leb least time) (v .0) in
-    (record { instrument-in = leb-true instrument 11 (u .0); in-day = leb-true time 86399999 (t .0); not-before = leb-true least time (t .1) }, v .1)
+    let v = unless-fine (allowed (before .third) instrument) 17 rest (u .1) in
+    (record { in-table = leb-true instrument 11 (u .0); let-be = v .0 }, v .1)
 
-sound-stamp : (least time instrument rest : ℕ) → SoundStamp least time instrument → stamped least time instrument rest ≡ rest
-sound-stamp least time instrument rest h =
-    unless-passed _ 7 _ (le-leb instrument 11 (h .instrument-in))
-    ∙ unless-passed _ 8 rest (both-holds _ _ (le-leb time 86399999 (h .in-day)) (le-leb least time (h .not-before)))
+sound-on : (before : Before) (instrument rest : ℕ) → SoundOn before instrument → onInstrument before instrument rest ≡ rest
+sound-on before instrument rest h = unless-passed _ 7 _ (le-leb instrument 11 (h .in-table)) ∙ unless-passed _ 18 rest (h .let-be)
+
+stamp-sound : (before : Before) (time instrument rest : ℕ) → stamped before time instrument rest ≡ fine → SoundStamp before time instrument × (rest ≡ fine)
+stamp-sound before time instrument rest e =
+    let u = on-sound before instrument _ e in
+    let v = unless-fine (timeRight (before .time) time) 7 rest (u .1) in
+    let t = both-true (leb time 86399999) (leb (before .time) time) (v .0) in
+    (record { on = u .0; in-day = leb-true time 86399999 (t .0); not-before = leb-true (before .time) time (t .1) }, v .1)
+
+sound-stamp : (before : Before) (time instrument rest : ℕ) → SoundStamp before time instrument → stamped before time instrument rest ≡ rest
+sound-stamp before time instrument rest h =
+    sound-on before instrument _ (h .on)
+    ∙ unless-passed _ 8 rest (both-holds _ _ (le-leb time 86399999 (h .in-day)) (le-leb (before .time) time (h .not-before)))
 
 -- values that earn no number are in their ranges
-pub sound : (least : ℕ) (f : Field) → judge least f ≡ fine → Sound least f
+pub sound : (before : Before) (f : Field) → judge before f ≡ fine → Sound before f
 unfolding judge
-sound least (Header metal marks) e = unless-fine (headerRight metal marks) 5 fine e .0
-sound least (PreviousClose instrument price) e =
-    let u = unless-fine (instrumentRight instrument) 6 _ e in
-    (leb-true instrument 11 (u .0), unless-fine (priceRight instrument price) 8 fine (u .1) .0)
-sound least (Trade time instrument price lots) e =
-    let u = stamp-sound least time instrument _ e in
+sound before (Header metal marks form) e = unless-fine (headerRight metal marks (thirdOf form)) 5 fine e .0
+sound before (PreviousClose instrument price) e =
+    let u = on-sound before instrument _ e in
+    (u .0, unless-fine (priceRight instrument price) 8 fine (u .1) .0)
+sound before (Trade time instrument price lots) e =
+    let u = stamp-sound before time instrument _ e in
     let v = unless-fine (priceRight instrument price) 8 _ (u .1) in
     let w = within-true 1 10000 lots (unless-fine (lotsRight lots) 9 fine (v .1) .0) in
     record { stamp = u .0; price-in = v .0; some = w .0; most = w .1 }
-sound least (Quote time instrument sides bid offer) e =
-    let u = stamp-sound least time instrument _ e in
+sound before (Quote time instrument sides bid offer) e =
+    let u = stamp-sound before time instrument _ e in
     let v = unless-fine (sidesRight sides bid offer) 10 _ (u .1) in
     let w = unless-fine (sidePricesRight instrument sides bid offer) 8 _ (v .1) in
     record { stamp = u .0; sides-in = v .0; prices-in = w .0; in-order = unless-fine (ordered sides bid offer) 10 fine (w .1) .0 }
-sound least (End count) e = tt
+sound before (End count) e = tt
 
 -- the metal of a right header
-pub metal-range : (metal marks : ℕ) → headerRight metal marks ≡ true → (1 ≤ metal) × (metal ≤ 5)
-metal-range metal marks e = within-true 1 5 metal (both-true (within 1 5 metal) (leb marks 2047) e .0)
+pub metal-range : (metal marks third : ℕ) → headerRight metal marks third ≡ true → (1 ≤ metal) × (metal ≤ 5)
+metal-range metal marks third e = within-true 1 5 metal (both-true (within 1 5 metal) (both (leb marks 2047) (leb third 2)) e .0)
+
+-- marks and third value of a right header
+pub marks-range : (metal marks third : ℕ) → headerRight metal marks third ≡ true → (marks ≤ 2047) × (third ≤ 2)
+marks-range metal marks third e =
+    let u = both-true (leb marks 2047) (leb third 2) (both-true _ (both (leb marks 2047) (leb third 2)) e .1) in
+    (leb-true marks 2047 (u .0), leb-true third 2 (u .1))
 
 -- and the other way round
-pub judge-sound : (least : ℕ) (f : Field) → Sound least f → judge least f ≡ fine
+pub judge-sound : (before : Before) (f : Field) → Sound before f → judge before f ≡ fine
 unfolding judge
-judge-sound least (Header metal marks) h = unless-passed _ 6 fine h
-judge-sound least (PreviousClose instrument price) h = unless-passed _ 7 _ (le-leb instrument 11 (h .0)) ∙ unless-passed _ 9 fine (h .1)
-judge-sound least (Trade time instrument price lots) h =
-    sound-stamp least time instrument _ (h .stamp)
+judge-sound before (Header metal marks form) h = unless-passed _ 6 fine h
+judge-sound before (PreviousClose instrument price) h = sound-on before instrument _ (h .0) ∙ unless-passed _ 9 fine (h .1)
+judge-sound before (Trade time instrument price lots) h =
+    sound-stamp before time instrument _ (h .stamp)
     ∙ unless-passed _ 9 _ (h .price-in)
     ∙ unless-passed _ 10 fine (both-holds _ _ (le-leb 1 lots (h .some)) (le-leb lots 10000 (h .most)))
-judge-sound least (Quote time instrument sides bid offer) h =
-    sound-stamp least time instrument _ (h .stamp)
+judge-sound before (Quote time instrument sides bid offer) h =
+    sound-stamp before time instrument _ (h .stamp)
     ∙ unless-passed _ 11 _ (h .sides-in)
     ∙ unless-passed _ 9 _ (h .prices-in)
     ∙ unless-passed _ 11 fine (h .in-order)
-judge-sound least (End count) h = refl
+judge-sound before (End count) h = refl
 
--- with a lower least time they still are
-pub sound-lower : (least lower : ℕ) (f : Field) → lower ≤ least → Sound least f → Sound lower f
-sound-lower least lower (Header metal marks) l h = h
-sound-lower least lower (PreviousClose instrument price) l h = h
-sound-lower least lower (Trade time instrument price lots) l h = record { stamp = lower-stamp (h .stamp); price-in = h .price-in; some = h .some; most = h .most }
-  where
-    lower-stamp : SoundStamp least time instrument → SoundStamp lower time instrument
-    lower-stamp st = record { instrument-in = st .instrument-in; in-day = st .in-day; not-before = omega (arith, st .not-before) }
-sound-lower least lower (Quote time instrument sides bid offer) l h =
-    let st = h .stamp in
-    record { stamp = record { instrument-in = st .instrument-in; in-day = st .in-day; not-before = omega (arith, st .not-before) }; sides-in = h .sides-in; prices-in = h .prices-in; in-order = h .in-order }
-sound-lower least lower (End count) l h = tt
+-- by themselves they still are: 0 bars no instrument, and no time is below 0
+on-alone : (before : Before) (instrument : ℕ) → SoundOn before instrument → SoundOn alone instrument
+unfolding barred isIn
+on-alone before instrument h = record { in-table = h .in-table; let-be = refl }
+
+stamp-alone : (before : Before) (time instrument : ℕ) → SoundStamp before time instrument → SoundStamp alone time instrument
+stamp-alone before time instrument h = record { on = on-alone before instrument (h .on); in-day = h .in-day; not-before = omega arith }
+
+pub sound-alone : (before : Before) (f : Field) → Sound before f → Sound alone f
+sound-alone before (Header metal marks form) h = h
+sound-alone before (PreviousClose instrument price) h = (on-alone before instrument (h .0), h .1)
+sound-alone before (Trade time instrument price lots) h = record { stamp = stamp-alone before time instrument (h .stamp); price-in = h .price-in; some = h .some; most = h .most }
+sound-alone before (Quote time instrument sides bid offer) h =
+    record { stamp = stamp-alone before time instrument (h .stamp); sides-in = h .sides-in; prices-in = h .prices-in; in-order = h .in-order }
+sound-alone before (End count) h = tt
 
 -- ---- the size of a price
 
@@ -136,8 +161,8 @@ unfolding pick
 side-size true instrument price absent right = price-size instrument price right
 side-size false instrument price absent right = cents-size (pos 0) (pos 0) price 99999999 (omega arith) (omega arith) absent
 
-pub sides-size : (least time instrument sides : ℕ) (bid offer : Price) → SoundQuote least time instrument sides bid offer → (natAbs (bid .cents) ≤ 99999999) × (natAbs (offer .cents) ≤ 99999999)
-sides-size least time instrument sides bid offer h =
+pub sides-size : (before : Before) (time instrument sides : ℕ) (bid offer : Price) → SoundQuote before time instrument sides bid offer → (natAbs (bid .cents) ≤ 99999999) × (natAbs (offer .cents) ≤ 99999999)
+sides-size before time instrument sides bid offer h =
     let absent = both-true _ _ (both-true (leb sides 3) _ (h .sides-in) .1) in
     let present = both-true _ _ (h .prices-in) in
     (side-size (hasBid sides) instrument bid (absent .0) (present .0), side-size (hasOffer sides) instrument offer (absent .1) (present .1))

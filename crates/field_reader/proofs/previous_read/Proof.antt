@@ -10,6 +10,9 @@ shared-slice-read-instrument c = search needs
 price-at-requires : tie.Need-price-at-requires
 price-at-requires c κs = search needs
 
+by-itself-requires : tie.Need-by-itself-requires
+by-itself-requires c κs = search needs
+
 judge-previous-requires : tie.Need-judge-previous-requires
 judge-previous-requires c κs = search needs
 
@@ -25,6 +28,7 @@ previous-read-spec =
     (tie.spec
     shared-slice-read-instrument
     price-at-requires
+    by-itself-requires
     judge-previous-requires
     settle-requires
     returns)

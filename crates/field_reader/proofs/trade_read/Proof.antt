@@ -34,6 +34,9 @@ shared-slice-read-join2-2 c = search needs
 join2-requires : tie.Need-join2-requires
 join2-requires c κs = search needs
 
+by-itself-requires : tie.Need-by-itself-requires
+by-itself-requires c κs = search needs
+
 judge-trade-requires : tie.Need-judge-trade-requires
 judge-trade-requires c κs = search needs
 
@@ -57,6 +60,7 @@ trade-read-spec =
     shared-slice-read-join2
     shared-slice-read-join2-2
     join2-requires
+    by-itself-requires
     judge-trade-requires
     settle-requires
     returns)

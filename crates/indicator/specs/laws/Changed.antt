@@ -40,7 +40,7 @@ cond-map g false x y = refl
 -- a field of another instrument does nothing
 other : (i : ℕ) (s : Indicator) (f : Field) → concerns i f ≡ false → taken i s f ≡ s
 unfolding taken
-other i s (Header metal marks) e = refl
+other i s (Header metal marks form) e = refl
 other i s (PreviousClose instrument price) e = simp e
 other i s (Trade time instrument price lots) e = simp e
 other i s (Quote time instrument sides bid offer) e = simp e
@@ -55,14 +55,14 @@ pub repriced-keeps : (m : Price → Price) (q : ℕ → Price → Price → Side
 repriced-keeps m q = record { time = at-time; instrument = of-instrument }
   where
     at-time : (f : Field) → stamp (repriced m q f) ≡ stamp f
-    at-time (Header metal marks) = refl
+    at-time (Header metal marks form) = refl
     at-time (PreviousClose instrument price) = refl
     at-time (Trade time instrument price lots) = refl
     at-time (Quote time instrument sides bid offer) = refl
     at-time (End count) = refl
 
     of-instrument : (i : ℕ) (f : Field) → concerns i (repriced m q f) ≡ concerns i f
-    of-instrument i (Header metal marks) = refl
+    of-instrument i (Header metal marks form) = refl
     of-instrument i (PreviousClose instrument price) = refl
     of-instrument i (Trade time instrument price lots) = refl
     of-instrument i (Quote time instrument sides bid offer) = refl
@@ -79,7 +79,7 @@ module _ (i : ℕ) (m : Price → Price) (q : ℕ → Price → Price → Sides)
     (quote : (s : Indicator) (n : ℕ) (b o : Price) → afterQuote (G s) (q n b o .sides) (q n b o .bid) (q n b o .offer) ≡ G (afterQuote s n b o)) where
   pub repriced-along : Along i (repriced m q) G
   unfolding taken
-  repriced-along s (Header metal marks) = refl
+  repriced-along s (Header metal marks form) = refl
   repriced-along s (PreviousClose instrument price) = rw (close s price) (cond-map G (eqb instrument i) (afterClose s price) s)
   repriced-along s (Trade time instrument price lots) = rw (trade s price) (cond-map G (eqb instrument i) (afterTrade s price) s)
   repriced-along s (Quote time instrument sides bid offer) = rw (quote s sides bid offer) (cond-map G (eqb instrument i) (afterQuote s sides bid offer) s)
@@ -120,7 +120,7 @@ one-of i j instrument differs e = ne-eqb instrument j (λ h. differs (sym h ∙ 
 
 -- a field is of one instrument
 pub not-both : (i j : ℕ) (f : Field) → (j ≡ i → ⊥) → concerns i f ≡ true → concerns j f ≡ false
-not-both i j (Header metal marks) d e = refl
+not-both i j (Header metal marks form) d e = refl
 not-both i j (PreviousClose instrument price) d e = one-of i j instrument d e
 not-both i j (Trade time instrument price lots) d e = one-of i j instrument d e
 not-both i j (Quote time instrument sides bid offer) d e = one-of i j instrument d e

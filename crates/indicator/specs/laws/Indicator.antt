@@ -32,7 +32,7 @@ use Rattle.indicator.specs.laws.Sums.{sum-append, sum-const}
 -- previous closes before records, whose times never fall, from t on
 abbrev pub Rising : ℕ → List Field → Type 0
 Rising t [] = Unit {0}
-Rising t (Header metal marks ∷ fs) = (t ≡ 0) × Rising t fs
+Rising t (Header metal marks form ∷ fs) = (t ≡ 0) × Rising t fs
 Rising t (PreviousClose instrument price ∷ fs) = (t ≡ 0) × Rising t fs
 Rising t (Trade time instrument price lots ∷ fs) = (t ≤ time) × Rising time fs
 Rising t (Quote time instrument sides bid offer ∷ fs) = (t ≤ time) × Rising time fs
@@ -41,7 +41,7 @@ Rising t (End count ∷ fs) = Rising t fs
 -- an earlier time before them serves too
 pub rising-low : (t u : ℕ) (fs : List Field) → t ≤ u → Rising u fs → Rising t fs
 rising-low t u [] l h = tt
-rising-low t u (Header metal marks ∷ fs) l h = (omega (arith, h .0), rising-low t u fs l (h .1))
+rising-low t u (Header metal marks form ∷ fs) l h = (omega (arith, h .0), rising-low t u fs l (h .1))
 rising-low t u (PreviousClose instrument price ∷ fs) l h = (omega (arith, h .0), rising-low t u fs l (h .1))
 rising-low t u (Trade time instrument price lots ∷ fs) l h = (le-trans l (h .0), h .1)
 rising-low t u (Quote time instrument sides bid offer ∷ fs) l h = (le-trans l (h .0), h .1)
@@ -72,7 +72,7 @@ module _ (i t : ℕ) where
   pub late : (m : ℕ) (s : Indicator) (fs : List Field) → t < m → Rising m fs → afterFrom i t s fs ≡ s
   unfolding afterFrom taken
   late m s [] l h = refl
-  late m s (Header metal marks ∷ fs) l h = absurd (omega (arith, h .0))
+  late m s (Header metal marks form ∷ fs) l h = absurd (omega (arith, h .0))
   late m s (PreviousClose instrument price ∷ fs) l h = absurd (omega (arith, h .0))
   late m s (Trade time instrument price lots ∷ fs) l h = not-due s (Trade time instrument price lots) fs (omega (arith, h .0)) ∙ late time s fs (omega (arith, h .0)) (h .1)
   late m s (Quote time instrument sides bid offer ∷ fs) l h = not-due s (Quote time instrument sides bid offer) fs (omega (arith, h .0)) ∙ late time s fs (omega (arith, h .0)) (h .1)
@@ -148,7 +148,7 @@ by-time t time f fs e early later (no l) = first-early t f fs (omega arith) (ear
 
 pub parted : (t u : ℕ) (fs : List Field) → Rising u fs → Parted t fs
 parted t u [] h = all-later t [] tt
-parted t u (Header metal marks ∷ fs) h = first-early t (Header metal marks) fs (omega arith) (parted t u fs (h .1))
+parted t u (Header metal marks form ∷ fs) h = first-early t (Header metal marks form) fs (omega arith) (parted t u fs (h .1))
 parted t u (PreviousClose instrument price ∷ fs) h = first-early t (PreviousClose instrument price) fs (omega arith) (parted t u fs (h .1))
 parted t u (Trade time instrument price lots ∷ fs) h = by-time t time (Trade time instrument price lots) fs refl (λ l. parted t time fs (h .1)) (λ l. (l, h .1)) (decLt t time)
 parted t u (Quote time instrument sides bid offer ∷ fs) h = by-time t time (Quote time instrument sides bid offer) fs refl (λ l. parted t time fs (h .1)) (λ l. (l, h .1)) (decLt t time)
@@ -185,7 +185,7 @@ whole-window i start early later c r =
 -- a previous close of instrument i, or a trade of it at or before t
 unfoldable pub toldBy : ℕ → ℕ → List Field → Bool
 toldBy i t [] = false
-toldBy i t (Header metal marks ∷ fs) = toldBy i t fs
+toldBy i t (Header metal marks form ∷ fs) = toldBy i t fs
 toldBy i t (PreviousClose instrument price ∷ fs) = cond (eqb instrument i) true (toldBy i t fs)
 toldBy i t (Trade time instrument price lots ∷ fs) = cond (eqb instrument i) (cond (leb time t) true (toldBy i t fs)) (toldBy i t fs)
 toldBy i t (Quote time instrument sides bid offer ∷ fs) = toldBy i t fs
@@ -222,7 +222,7 @@ module _ (i t : ℕ) where
   reference-from : (s : Indicator) (fs : List Field) → present (afterFrom i t s fs .reference) ≡ cond (present (s .reference)) true (toldBy i t fs)
   unfolding afterFrom taken toldBy
   reference-from s [] = or-false (present (s .reference))
-  reference-from s (Header metal marks ∷ fs) = ap (λ (x : Indicator). present (x .reference)) (due i t s (Header metal marks) fs (omega arith)) ∙ reference-from s fs
+  reference-from s (Header metal marks form ∷ fs) = ap (λ (x : Indicator). present (x .reference)) (due i t s (Header metal marks form) fs (omega arith)) ∙ reference-from s fs
   reference-from s (PreviousClose instrument price ∷ fs) =
       ap (λ (x : Indicator). present (x .reference)) (due i t s (PreviousClose instrument price) fs (omega arith))
       ∙ reference-from (cond (eqb instrument i) (afterClose s price) s) fs
@@ -251,7 +251,7 @@ or-mono false b false d f g h = g h
 told-later : (i t u : ℕ) (fs : List Field) → t ≤ u → T (toldBy i t fs) → T (toldBy i u fs)
 unfolding toldBy
 told-later i t u [] l h = h
-told-later i t u (Header metal marks ∷ fs) l h = told-later i t u fs l h
+told-later i t u (Header metal marks form ∷ fs) l h = told-later i t u fs l h
 told-later i t u (PreviousClose instrument price ∷ fs) l h = pick-mono (eqb instrument i) true (toldBy i t fs) true (toldBy i u fs) (λ x. x) (told-later i t u fs l) h
 told-later i t u (Trade time instrument price lots ∷ fs) l h =
     pick-mono (eqb instrument i) (cond (leb time t) true (toldBy i t fs)) (toldBy i t fs) (cond (leb time u) true (toldBy i u fs)) (toldBy i u fs)
@@ -279,7 +279,7 @@ laterOf q (quoted sides bid offer) = quoted sides bid offer
 -- the latest quote record of instrument i that is stamped at or before t
 unfoldable pub latestQuote : ℕ → ℕ → List Field → Latest
 latestQuote i t [] = none
-latestQuote i t (Header metal marks ∷ fs) = latestQuote i t fs
+latestQuote i t (Header metal marks form ∷ fs) = latestQuote i t fs
 latestQuote i t (PreviousClose instrument price ∷ fs) = latestQuote i t fs
 latestQuote i t (Trade time instrument price lots ∷ fs) = latestQuote i t fs
 latestQuote i t (Quote time instrument sides bid offer ∷ fs) = laterOf (cond (eqb instrument i) (cond (leb time t) (quoted sides bid offer) none) none) (latestQuote i t fs)
@@ -315,7 +315,7 @@ module _ (i t : ℕ) where
   book-from : (s : Indicator) (fs : List Field) → bookOf (afterFrom i t s fs) ≡ bookBy (bookOf s) (latestQuote i t fs)
   unfolding afterFrom taken latestQuote
   book-from s [] = refl
-  book-from s (Header metal marks ∷ fs) = ap bookOf (due i t s (Header metal marks) fs (omega arith)) ∙ book-from s fs
+  book-from s (Header metal marks form ∷ fs) = ap bookOf (due i t s (Header metal marks form) fs (omega arith)) ∙ book-from s fs
   book-from s (PreviousClose instrument price ∷ fs) =
       let b = book-stays (leb 0 t) (eqb instrument i) (afterClose s price) s refl in
       book-from _ fs ∙ ap (λ (before : Book). bookBy before (latestQuote i t fs)) b

@@ -30,7 +30,7 @@ use Rattle.indicator.specs.laws.Changed.{onSide, on-present, on-else, co
 -- no quote has a bid above its offer
 abbrev pub Fair : List Field → Type 0
 Fair [] = Unit {0}
-Fair (Header metal marks ∷ fs) = Fair fs
+Fair (Header metal marks form ∷ fs) = Fair fs
 Fair (PreviousClose instrument price ∷ fs) = Fair fs
 Fair (Trade time instrument price lots ∷ fs) = Fair fs
 Fair (Quote time instrument sides bid offer ∷ fs) = (ordered sides bid offer ≡ true) × Fair fs
@@ -176,7 +176,7 @@ module _ (i t : ℕ) where
   fair-from : (s : Indicator) (fs : List Field) → Fair fs → Uncrossed (s .bid) (s .offer) → Uncrossed (afterFrom i t s fs .bid) (afterFrom i t s fs .offer)
   unfolding afterFrom taken
   fair-from s [] f h = h
-  fair-from s (Header metal marks ∷ fs) f h = fair-from _ fs f (fair-choice (leb 0 t) s s h h)
+  fair-from s (Header metal marks form ∷ fs) f h = fair-from _ fs f (fair-choice (leb 0 t) s s h h)
   fair-from s (PreviousClose instrument price ∷ fs) f h =
       let new = afterClose s price in
       fair-from _ fs f (fair-choice (leb 0 t) (cond (eqb instrument i) new s) s (fair-choice (eqb instrument i) new s h h) h)

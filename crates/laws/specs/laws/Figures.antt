@@ -14,6 +14,7 @@ use lib.IntN.{ℤ}
 use lib.Dec.{T}
 use lib.Signed.{leZ, _≤ℤ_}
 use Rattle.field.specs.declared.Price.{Price}
+use Rattle.field.specs.declared.Form.{Form}
 use Rattle.field.specs.declared.Field.{Field}
 use Rattle.field.specs.declared.Field.the-variants.{Header, PreviousClose, Trade, Quote, End}
 use Rattle.market.specs.Market.{windowLength}
@@ -43,7 +44,7 @@ cond-list g false x = refl
 -- one field: changed, and of another instrument
 trade-repriced : (metal i : ℕ) (r : Price → Price) (q : ℕ → Price → Price → Sides) (f : Field) → tradeIn metal i (repriced r q f) ≡ map (repricedDeal r) (tradeIn metal i f)
 unfolding tradeIn
-trade-repriced metal i r q (Header m marks) = refl
+trade-repriced metal i r q (Header m marks form) = refl
 trade-repriced metal i r q (PreviousClose instrument price) = refl
 trade-repriced metal i r q (Trade time instrument price lots) = cond-list (repricedDeal r) (counts metal i instrument time) (record { price = price .cents; lots = lots })
 trade-repriced metal i r q (Quote time instrument sides bid offer) = refl
@@ -51,7 +52,7 @@ trade-repriced metal i r q (End count) = refl
 
 trade-apart : (metal i : ℕ) (f : Field) → concerns i f ≡ false → tradeIn metal i f ≡ []
 unfolding tradeIn
-trade-apart metal i (Header m marks) e = refl
+trade-apart metal i (Header m marks form) e = refl
 trade-apart metal i (PreviousClose instrument price) e = refl
 trade-apart metal i (Trade time instrument price lots) e = trade-other metal i time instrument price lots (eqb-false instrument i e)
 trade-apart metal i (Quote time instrument sides bid offer) e = refl
@@ -94,9 +95,9 @@ lots-kept r (d ∷ ds) = ap (λ (n : ℕ). d .lots + n) (lots-kept r ds)
 -- ---- indicators
 
 -- the header says nothing of an instrument's trades and prices
-pub trades-header : (metal i m n k : ℕ) (fs : List Field) → tradesIn metal i (Header m n ∷ fs) ≡ tradesIn metal i (Header m k ∷ fs)
+pub trades-header : (metal i m n k : ℕ) (form : Form) (fs : List Field) → tradesIn metal i (Header m n form ∷ fs) ≡ tradesIn metal i (Header m k form ∷ fs)
 unfolding tradesIn tradeIn
-trades-header metal i m n k fs = refl
+trades-header metal i m n k form fs = refl
 
 -- indicators whose states agree at every millisecond
 span-by : (i j start : ℕ) (fs gs : List Field) → ((t : ℕ) → after i t fs ≡ after j t gs) → spanOf i start fs ≡ spanOf j start gs
@@ -106,9 +107,9 @@ span-by i j start fs gs e =
     (ap (λ (s : Indicator). present (s .reference)) (e start))
     (sum-cong (centsAt i fs) (centsAt j gs) start windowLength (λ t l h. ap (λ (s : Indicator). centsOf (valueOf s)) (e t)))
 
-pub span-header : (i start m n k : ℕ) (fs : List Field) → spanOf i start (Header m n ∷ fs) ≡ spanOf i start (Header m k ∷ fs)
+pub span-header : (i start m n k : ℕ) (form : Form) (fs : List Field) → spanOf i start (Header m n form ∷ fs) ≡ spanOf i start (Header m k form ∷ fs)
 unfolding afterFrom taken
-span-header i start m n k fs = span-by i i start (Header m n ∷ fs) (Header m k ∷ fs) (λ t. refl)
+span-header i start m n k form fs = span-by i i start (Header m n form ∷ fs) (Header m k form ∷ fs) (λ t. refl)
 
 pub span-others : (i j start : ℕ) (r : Price → Price) (q : ℕ → Price → Price → Sides) → (j ≡ i → ⊥) → (fs : List Field) → spanOf j start (map (changed i (repriced r q)) fs) ≡ spanOf j start fs
 span-others i j start r q h fs = span-by j j start (map (changed i (repriced r q)) fs) fs (λ t. others-stay i j (repriced r q) (repriced-keeps r q) h t fs)

@@ -14,15 +14,17 @@ use lib.Dec.{ltb, eqb}
 use lib.ListN.{length, length-append}
 use Rattle.wire.specs.Big.{Bytes}
 use Rattle.field.specs.declared.Price.{Price}
+use Rattle.field.specs.declared.Form.{Form}
+use Rattle.field.specs.declared.Before.{Before}
 use Rattle.field.specs.declared.Field.{Field}
 use Rattle.field.specs.declared.Field.the-variants.{Header, PreviousClose, Trade, Quote, End}
-use Rattle.field.specs.Judging.{fine, headerRight, priceRight, judge, also}
-use Rattle.field.specs.Layout.{tagOf, sizeOf}
+use Rattle.field.specs.Judging.{fine, thirdOf, headerRight, priceRight, alone, judge, also}
+use Rattle.field.specs.Layout.{formTag, tagOf, sizeOf}
 use Rattle.field.specs.laws.Field.{clash, unless-passed, body-length}
 use Rattle.field.specs.laws.Sound.{Sound, SoundQuote, sound, judge-sound}
 use Rattle.admit.specs.declared.Progress.{Progress}
-use Rattle.admit.specs.Admitting.{start, previousPlaced, placed, countNumber, admitNumber, Step, goes, ends, stops, admitted, admit, afterHeader}
-use Rattle.admit.specs.laws.Admitting.{Passed, went, ended, kept, later-not-header, header-kept, end-is, admit-fine}
+use Rattle.admit.specs.Admitting.{start, beforeOf, previousPlaced, placed, countNumber, admitNumber, Step, goes, ends, stops, admitted, admit, afterHeader}
+use Rattle.admit.specs.laws.Admitting.{Passed, went, ended, kept, Later, later-not-header, header-kept, end-is, admit-fine}
 use Rattle.sheet.specs.declared.Day.{Day}
 use Rattle.sheet.specs.Fields.{fieldsOf, encode, Each}
 use Rattle.sheet.specs.Judgement.{accepts, judgeSheet}
@@ -40,10 +42,10 @@ changed-all P i g f there here = by-test (concerns i f)
 
 -- other marks in the header: what is kept behind a field, and what is told of the day
 abbrev withMarks : ℕ → Progress → Progress
-withMarks m p = record { stage = p .stage; instrument = p .instrument; time = p .time; count = p .count; metal = p .metal; marks = m }
+withMarks m p = record { stage = p .stage; instrument = p .instrument; time = p .time; count = p .count; metal = p .metal; marks = m; form = p .form }
 
 abbrev pub dayWith : ℕ → Day → Day
-dayWith m day = record { metal = day .metal; marks = m; fields = day .fields }
+dayWith m day = record { metal = day .metal; marks = m; form = day .form; fields = day .fields }
 
 abbrev stepWith : ℕ → Step → Step
 stepWith m (goes q) = goes (withMarks m q)
@@ -67,32 +69,32 @@ record AsBefore (m : ℕ) (p : Progress) (f g : Field) : Type 0 where
   goes-on : admitted (withMarks m p) g ≡ stepWith m (admitted p f)
 
 module _ (m : ℕ) (p : Progress) where
-  before-self : (f : Field) → (tagOf f ≡ 1 → ⊥) → AsBefore m p f f
-  unfolding placed previousPlaced countNumber admitted tagOf
-  before-self (Header metal marks) h = absurd (h refl)
+  before-self : (f : Field) → Later f → AsBefore m p f f
+  unfolding placed previousPlaced countNumber admitted
+  before-self (Header metal marks form) h = absurd h
   before-self (PreviousClose instrument price) h = record { place = refl; counted = refl; goes-on = refl }
   before-self (Trade time instrument price lots) h = record { place = refl; counted = refl; goes-on = refl }
   before-self (Quote time instrument sides bid offer) h = record { place = refl; counted = refl; goes-on = refl }
   before-self (End count) h = record { place = refl; counted = refl; goes-on = refl }
 
-  before-repriced : (r : Price → Price) (q : ℕ → Price → Price → Sides) (f : Field) → (tagOf f ≡ 1 → ⊥) → AsBefore m p f (repriced r q f)
-  unfolding placed previousPlaced countNumber admitted tagOf
-  before-repriced r q (Header metal marks) h = absurd (h refl)
+  before-repriced : (r : Price → Price) (q : ℕ → Price → Price → Sides) (f : Field) → Later f → AsBefore m p f (repriced r q f)
+  unfolding placed previousPlaced countNumber admitted
+  before-repriced r q (Header metal marks form) h = absurd h
   before-repriced r q (PreviousClose instrument price) h = record { place = refl; counted = refl; goes-on = refl }
   before-repriced r q (Trade time instrument price lots) h = record { place = refl; counted = refl; goes-on = refl }
   before-repriced r q (Quote time instrument sides bid offer) h = record { place = refl; counted = refl; goes-on = refl }
   before-repriced r q (End count) h = record { place = refl; counted = refl; goes-on = refl }
 
 -- what an admission made of a field, it makes of the field changed
-admit-before : (m : ℕ) (p : Progress) (f g : Field) (t : Step) → AsBefore m p f g → Passed p f → admitted p f ≡ t → judge (p .time) g ≡ fine → admit (withMarks m p) g ≡ stepWith m t
+admit-before : (m : ℕ) (p : Progress) (f g : Field) (t : Step) → AsBefore m p f g → Passed p f → admitted p f ≡ t → judge (beforeOf p) g ≡ fine → admit (withMarks m p) g ≡ stepWith m t
 admit-before m p f g t b h e right =
     let ok : Passed (withMarks m p) g = record { room = h .room; place = b .place ∙ h .place; values = right; counted = b .counted ∙ h .counted } in
     admit-fine (withMarks m p) g (passed-fine (withMarks m p) g ok) ∙ b .goes-on ∙ ap (stepWith m) e
 
 -- a right header comes first
-admit-header : (metal m : ℕ) → headerRight metal m ≡ true → admit start (Header metal m) ≡ goes (afterHeader start metal m)
+admit-header : (metal m : ℕ) (form : Form) → headerRight metal m (thirdOf form) ≡ true → admit start (Header metal m form) ≡ goes (afterHeader start metal m form)
 unfolding placed countNumber admitted
-admit-header metal m right = admit-fine start (Header metal m) (passed-fine start (Header metal m) (record { room = omega arith; place = refl; values = judge-sound 0 (Header metal m) right; counted = refl }))
+admit-header metal m form right = admit-fine start (Header metal m form) (passed-fine start (Header metal m form) (record { room = omega arith; place = refl; values = judge-sound alone (Header metal m form) right; counted = refl }))
 
 -- ---- a list of fields
 
@@ -108,29 +110,29 @@ module _ (i : ℕ) (r : Price → Price) (q : ℕ → Price → Price → Sides)
 
   -- it leaves a field's values right
   abbrev pub Right : Field → Type 0
-  Right f = (least : ℕ) → judge least f ≡ fine → judge least (changed i (repriced r q) f) ≡ fine
+  Right f = (before : Before) → judge before f ≡ fine → judge before (changed i (repriced r q) f) ≡ fine
 
-  before-changed : (m : ℕ) (p : Progress) (f : Field) → (tagOf f ≡ 1 → ⊥) → AsBefore m p f (change f)
+  before-changed : (m : ℕ) (p : Progress) (f : Field) → Later f → AsBefore m p f (change f)
   before-changed m p f h = changed-all (AsBefore m p f) i (repriced r q) f (before-repriced m p r q f h) (before-self m p f h)
 
   chain-changed : (m : ℕ) {p : Progress} {fs : List Field} {day : Day} → Chain p fs day → 1 ≤ p .stage → Each Right fs → Chain (withMarks m p) (map change fs) (dayWith m day)
   chain-changed m (last {p = p} {f = f} e) l h =
       let u = ended p f e in
-      last (admit-before m p f (change f) ends (before-changed m p f (later-not-header p f (u .0) l)) (u .0) (u .1) (h .0 (p .time) (u .0 .values)))
+      last (admit-before m p f (change f) ends (before-changed m p f (later-not-header p f (u .0) l)) (u .0) (u .1) (h .0 (beforeOf p) (u .0 .values)))
   chain-changed m (more {p = p} {q = to} {f = f} e c) l h =
       let u = went p f to e in
       more
-      (admit-before m p f (change f) (goes to) (before-changed m p f (later-not-header p f (u .0) l)) (u .0) (u .1) (h .0 (p .time) (u .0 .values)))
+      (admit-before m p f (change f) (goes to) (before-changed m p f (later-not-header p f (u .0) l)) (u .0) (u .1) (h .0 (beforeOf p) (u .0 .values)))
       (chain-changed m c (kept p f to e .later) (h .1))
 
   -- behind a header with other marks, which are right
-  chain-remarked : (metal marks m : ℕ) (rest : List Field) (day : Day) → headerRight metal m ≡ true → Chain start (Header metal marks ∷ rest) day → Each Right rest
-      → Chain start (Header metal m ∷ map change rest) (dayWith m day)
-  chain-remarked metal marks m rest day right (last e) h = let z : Header metal marks ≡ End (start .count) = end-is start (Header metal marks) e in clash cc
-  chain-remarked metal marks m rest day right (more {q = to} {fs = fs} e c) h =
+  chain-remarked : (metal marks m : ℕ) (form : Form) (rest : List Field) (day : Day) → headerRight metal m (thirdOf form) ≡ true → Chain start (Header metal marks form ∷ rest) day → Each Right rest
+      → Chain start (Header metal m form ∷ map change rest) (dayWith m day)
+  chain-remarked metal marks m form rest day right (last e) h = let z : Header metal marks form ≡ End (start .count) = end-is start (Header metal marks form) e in clash cc
+  chain-remarked metal marks m form rest day right (more {q = to} {fs = fs} e c) h =
       more
-      (admit-header metal m right)
-      (subst (λ (p : Progress). Chain (withMarks m p) (map change fs) (dayWith m day)) (header-kept start metal marks to e) (chain-changed m c (kept start (Header metal marks) to e .later) h))
+      (admit-header metal m form right)
+      (subst (λ (p : Progress). Chain (withMarks m p) (map change fs) (dayWith m day)) (header-kept start metal marks form to e) (chain-changed m c (kept start (Header metal marks form) to e .later) h))
 
   -- such fields have the same tags, and as many bytes
   pub tag-same : (f : Field) → tagOf (change f) ≡ tagOf f
@@ -138,7 +140,7 @@ module _ (i : ℕ) (r : Price → Price) (q : ℕ → Price → Price → Sides)
   tag-same f = changed-all (λ g. tagOf g ≡ tagOf f) i (repriced r q) f (repriced-tag f) refl
     where
       repriced-tag : (f : Field) → tagOf (repriced r q f) ≡ tagOf f
-      repriced-tag (Header metal marks) = refl
+      repriced-tag (Header metal marks form) = refl
       repriced-tag (PreviousClose instrument price) = refl
       repriced-tag (Trade time instrument price lots) = refl
       repriced-tag (Quote time instrument sides bid offer) = refl
@@ -149,9 +151,9 @@ module _ (i : ℕ) (r : Price → Price) (q : ℕ → Price → Price → Sides)
   bytes-same [] = refl
   bytes-same (f ∷ fs) = field-more (change f) (map change fs) ∙ ap₂ (λ (tag n : ℕ). sizeOf tag + n) (tag-same f) (bytes-same fs) ∙ sym (field-more f fs)
 
-  header-same : (metal marks m : ℕ) (rest : List Field) → length (encode (Header metal m ∷ map change rest)) ≡ length (encode (Header metal marks ∷ rest))
+  header-same : (metal marks m : ℕ) (form : Form) (rest : List Field) → length (encode (Header metal m form ∷ map change rest)) ≡ length (encode (Header metal marks form ∷ rest))
   unfolding tagOf
-  header-same metal marks m rest = field-more (Header metal m) (map change rest) ∙ ap (λ (n : ℕ). sizeOf 1 + n) (bytes-same rest) ∙ sym (field-more (Header metal marks) rest)
+  header-same metal marks m form rest = field-more (Header metal m form) (map change rest) ∙ ap (λ (n : ℕ). sizeOf (formTag form) + n) (bytes-same rest) ∙ sym (field-more (Header metal marks form) rest)
 
 -- ---- values that stay right
 
@@ -159,30 +161,30 @@ module _ (i : ℕ) (r : Price → Price) (q : ℕ → Price → Price → Sides)
 module _ (i : ℕ) (r : Price → Price) (q : ℕ → Price → Price → Sides) (Ok : Field → Type 0)
     (close : (price : Price) → Ok (PreviousClose i price) → priceRight i price ≡ true → priceRight i (r price) ≡ true)
     (trade : (time : ℕ) (price : Price) (lots : ℕ) → Ok (Trade time i price lots) → priceRight i price ≡ true → priceRight i (r price) ≡ true)
-    (quote : (least time sides : ℕ) (bid offer : Price) → Ok (Quote time i sides bid offer) → SoundQuote least time i sides bid offer
-    → SoundQuote least time i (q sides bid offer .sides) (q sides bid offer .bid) (q sides bid offer .offer)) where
-  sound-changed : (least : ℕ) (f : Field) → Ok f → Sound least f → Sound least (changed i (repriced r q) f)
-  sound-changed least (Header metal marks) ok h = h
-  sound-changed least (PreviousClose instrument price) ok h = by-test (eqb instrument i) refl
+    (quote : (before : Before) (time sides : ℕ) (bid offer : Price) → Ok (Quote time i sides bid offer) → SoundQuote before time i sides bid offer
+    → SoundQuote before time i (q sides bid offer .sides) (q sides bid offer .bid) (q sides bid offer .offer)) where
+  sound-changed : (before : Before) (f : Field) → Ok f → Sound before f → Sound before (changed i (repriced r q) f)
+  sound-changed before (Header metal marks form) ok h = h
+  sound-changed before (PreviousClose instrument price) ok h = by-test (eqb instrument i) refl
     where
-      by-test : (b : Bool) → eqb instrument i ≡ b → Sound least (cond b (PreviousClose instrument (r price)) (PreviousClose instrument price))
+      by-test : (b : Bool) → eqb instrument i ≡ b → Sound before (cond b (PreviousClose instrument (r price)) (PreviousClose instrument price))
       by-test true e = let z = eqb-true instrument i e in (h .0, rw z (close price (rw z at ok) (rw z at (h .1))))
       by-test false e = h
-  sound-changed least (Trade time instrument price lots) ok h = by-test (eqb instrument i) refl
+  sound-changed before (Trade time instrument price lots) ok h = by-test (eqb instrument i) refl
     where
-      by-test : (b : Bool) → eqb instrument i ≡ b → Sound least (cond b (Trade time instrument (r price) lots) (Trade time instrument price lots))
+      by-test : (b : Bool) → eqb instrument i ≡ b → Sound before (cond b (Trade time instrument (r price) lots) (Trade time instrument price lots))
       by-test true e = let z = eqb-true instrument i e in record { stamp = h .stamp; price-in = rw z (trade time price lots (rw z at ok) (rw z at (h .price-in))); some = h .some; most = h .most }
       by-test false e = h
-  sound-changed least (Quote time instrument sides bid offer) ok h = by-test (eqb instrument i) refl
+  sound-changed before (Quote time instrument sides bid offer) ok h = by-test (eqb instrument i) refl
     where
-      by-test : (b : Bool) → eqb instrument i ≡ b → Sound least (cond b (repriced r q (Quote time instrument sides bid offer)) (Quote time instrument sides bid offer))
-      by-test true e = let z = eqb-true instrument i e in rw z (quote least time sides bid offer (rw z at ok) (rw z at h))
+      by-test : (b : Bool) → eqb instrument i ≡ b → Sound before (cond b (repriced r q (Quote time instrument sides bid offer)) (Quote time instrument sides bid offer))
+      by-test true e = let z = eqb-true instrument i e in rw z (quote before time sides bid offer (rw z at ok) (rw z at h))
       by-test false e = h
-  sound-changed least (End count) ok h = tt
+  sound-changed before (End count) ok h = tt
 
   pub right-changed : (fs : List Field) → Each Ok fs → Each (Right i r q) fs
   right-changed [] h = tt
-  right-changed (f ∷ fs) h = ((λ least e. judge-sound least (changed i (repriced r q) f) (sound-changed least f (h .0) (sound least f e))), right-changed fs (h .1))
+  right-changed (f ∷ fs) h = ((λ before e. judge-sound before (changed i (repriced r q) f) (sound-changed before f (h .0) (sound before f e))), right-changed fs (h .1))
 
 -- ---- a sheet
 
@@ -194,12 +196,12 @@ module _ (s : List ℕ) (day : Day) (b : Bytes s) (a : judgeSheet s ≡ accepts 
 
   module _ (i : ℕ) (r : Price → Price) (q : ℕ → Price → Price → Sides) (m : ℕ) where
     abbrev pub changedFields : List Field
-    changedFields = Header (day .metal) m ∷ map (changed i (repriced r q)) restOf
+    changedFields = Header (day .metal) m (day .form) ∷ map (changed i (repriced r q)) restOf
 
-    pub changed-accepted : headerRight (day .metal) m ≡ true → Each (Right i r q) restOf → (judgeSheet (encode changedFields) ≡ accepts (dayWith m day)) × (fieldsOf (encode changedFields) ≡ changedFields)
+    pub changed-accepted : headerRight (day .metal) m (thirdOf (day .form)) ≡ true → Each (Right i r q) restOf → (judgeSheet (encode changedFields) ≡ accepts (dayWith m day)) × (fieldsOf (encode changedFields) ≡ changedFields)
     changed-accepted right h =
         let first = accepted-header s day a in
-        let chain : Chain start (Header (day .metal) (day .marks) ∷ restOf) day = subst (λ (fs : List Field). Chain start fs day) (first .is) (accepted-chain s day a) in
-        let same : s ≡ encode (Header (day .metal) (day .marks) ∷ restOf) = accepted-encodes s day b a ∙ ap encode (first .is) in
-        let long : length (encode changedFields) ≡ length (encode (Header (day .metal) (day .marks) ∷ restOf)) = header-same i r q (day .metal) (day .marks) m restOf in
-        encoded-accepted changedFields (dayWith m day) (chain-remarked i r q (day .metal) (day .marks) m restOf day right chain h) (omega (arith, accepted-small s day a, long, ap length same))
+        let chain : Chain start (Header (day .metal) (day .marks) (day .form) ∷ restOf) day = subst (λ (fs : List Field). Chain start fs day) (first .is) (accepted-chain s day a) in
+        let same : s ≡ encode (Header (day .metal) (day .marks) (day .form) ∷ restOf) = accepted-encodes s day b a ∙ ap encode (first .is) in
+        let long : length (encode changedFields) ≡ length (encode (Header (day .metal) (day .marks) (day .form) ∷ restOf)) = header-same i r q (day .metal) (day .marks) m (day .form) restOf in
+        encoded-accepted changedFields (dayWith m day) (chain-remarked i r q (day .metal) (day .marks) m (day .form) restOf day right chain h) (omega (arith, accepted-small s day a, long, ap length same))

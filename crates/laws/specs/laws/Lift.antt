@@ -13,8 +13,9 @@ use lib.IntN.{ℤ, pos, _+ℤ_, _*ℤ_}
 use lib.Signed.{leZ, leZ-yes}
 use Rattle.cents.specs.laws.Whole.{up, down, is, is-+, is-*, is-pos, show-≡, show-≤, read-≤}
 use Rattle.field.specs.declared.Price.{Price}
+use Rattle.field.specs.declared.Before.{Before}
 use Rattle.field.specs.declared.Field.{Field}
-use Rattle.field.specs.Judging.{both, pick, ifPresent, ifAbsent, centsWithin, priceRight, hasBid, hasOffer, sidePricesRight}
+use Rattle.field.specs.Judging.{both, thirdOf, pick, ifPresent, ifAbsent, centsWithin, priceRight, hasBid, hasOffer, sidePricesRight}
 use Rattle.field.specs.laws.Field.{both-true, both-holds}
 use Rattle.field.specs.laws.Sound.{SoundQuote}
 use Rattle.market.specs.Market.{startOf, stepOf, 3M}
@@ -57,9 +58,9 @@ module _ (δ : ℤ) where
   order-kept true false bid offer h = refl
   order-kept false o bid offer h = refl
 
-  quote-right : (least time sides : ℕ) (bid offer : Price) → SoundQuote least time 0 sides bid offer → sidePricesRight 0 sides (shiftPrice δ bid) (shiftPrice δ offer) ≡ true
-      → SoundQuote least time 0 sides (shiftSides δ sides bid offer .bid) (shiftSides δ sides bid offer .offer)
-  quote-right least time sides bid offer h right =
+  quote-right : (before : Before) (time sides : ℕ) (bid offer : Price) → SoundQuote before time 0 sides bid offer → sidePricesRight 0 sides (shiftPrice δ bid) (shiftPrice δ offer) ≡ true
+      → SoundQuote before time 0 sides (shiftSides δ sides bid offer .bid) (shiftSides δ sides bid offer .offer)
+  quote-right before time sides bid offer h right =
       let in-sides = both-true _ _ (h .sides-in) in
       let absent = both-true _ _ (in-sides .1) in
       let there = both-true _ _ right in
@@ -74,7 +75,7 @@ module _ (δ : ℤ) where
   lift-right = right-changed 0 (shiftPrice δ) (shiftSides δ) (Liftable δ)
       (λ price l h. l refl)
       (λ time price lots l h. l refl)
-      (λ least time sides bid offer l h. quote-right least time sides bid offer h (l refl))
+      (λ before time sides bid offer l h. quote-right before time sides bid offer h (l refl))
 
   -- ---- a lifted sheet's figures
 
@@ -98,13 +99,14 @@ module _ (δ : ℤ) where
       by true e = rw (shifted-reference 0 start δ fs, e) (some (shifted 0 start δ fs (rw e tt)))
       by false e = rw (shifted-reference 0 start δ fs, e) none
 
-  figures-lifted : (metal marks : ℕ) (fs : List Field) → Lifted δ (figuresOf metal marks fs) (figuresOf metal marks (map (liftedField δ) fs))
+  figures-lifted : (metal marks third : ℕ) (fs : List Field) → Lifted δ (figuresOf metal marks third fs) (figuresOf metal marks third (map (liftedField δ) fs))
   unfolding figuresOf
-  figures-lifted metal marks fs =
+  figures-lifted metal marks third fs =
       let own = trades-changed metal 0 (shiftPrice δ) (shiftSides δ) fs in
       record {
         metal = refl;
         marks = refl;
+        third = refl;
         lots = ap lotsIn own ∙ lots-kept (shiftPrice δ) (tradesIn metal 0 fs);
         value = ap valueIn own ∙ value-lifted (tradesIn metal 0 fs);
         span = span-lifted (startOf metal 0) fs;
@@ -115,7 +117,7 @@ module _ (δ : ℤ) where
 -- ---- the law
 
 -- a sheet's answers, where it is accepted
-pub answers-are : (s : List ℕ) (day : Day) → judgeSheet s ≡ accepts day → answersOf s ≡ six day (closingsOf (figuresOf (day .metal) (day .marks) (fieldsOf s)))
+pub answers-are : (s : List ℕ) (day : Day) → judgeSheet s ≡ accepts day → answersOf s ≡ six day (closingsOf (figuresOf (day .metal) (day .marks) (thirdOf (day .form)) (fieldsOf s)))
 unfolding answersOf
 answers-are s day a = ap (answersBy (fieldsOf s)) a
 
@@ -125,18 +127,18 @@ unfolding closingsOf
 answer-at d c h = numbered (answerOf d) 0 6 c (refused 15 0) h ∙ ap (answerOf d) (omega arith)
 
 -- by figures: each contract up to which neither has a 14
-figures-move : (metal marks : ℕ) (fs : List Field) (k : ℤ) → 0 < stepOf metal 3M →
-    let d = figuresOf metal marks fs in
+figures-move : (metal marks third : ℕ) (fs : List Field) (k : ℤ) → 0 < stepOf metal 3M →
+    let d = figuresOf metal marks third fs in
     let δ = pos (stepOf metal 3M) *ℤ k in
-    let d′ = figuresOf metal marks (map (liftedField δ) fs) in
+    let d′ = figuresOf metal marks third (map (liftedField δ) fs) in
     Moves δ (closingsOf d) (closingsOf d′)
 unfolding figuresOf
-figures-move metal marks fs k above c h f =
-    let d = figuresOf metal marks fs in
+figures-move metal marks third fs k above c h f =
+    let d = figuresOf metal marks third fs in
     let δ = pos (stepOf metal 3M) *ℤ k in
-    let d′ = figuresOf metal marks (map (liftedField δ) fs) in
+    let d′ = figuresOf metal marks third (map (liftedField δ) fs) in
     rw (answer-at d c h, answer-at d′ c h)
-    (shift k d d′ above (figures-lifted δ metal marks fs) c h
+    (shift k d d′ above (figures-lifted δ metal marks third fs) c h
     (λ j l. (subst InRange (answer-at d j (omega arith)) (f j l .0), subst InRange (answer-at d′ j (omega arith)) (f j l .1))))
 
 -- for every accepted sheet, and every whole number of steps that leaves its 3M prices in their range
@@ -149,15 +151,15 @@ shifts s day k b a l =
     let kept = changed-accepted s day b a 0 (shiftPrice δ) (shiftSides δ) (day .marks) (accepted-right s day a) (lift-right δ (first .rest) (subst (Each (Liftable δ)) (first .is) l .1)) in
     let accepted : judgeSheet (encode (map (liftedField δ) (fieldsOf s))) ≡ accepts day = ap (λ (fs : List Field). judgeSheet (encode fs)) same ∙ kept .0 in
     let fields : fieldsOf (encode (map (liftedField δ) (fieldsOf s))) ≡ map (liftedField δ) (fieldsOf s) = ap (λ (fs : List Field). fieldsOf (encode fs)) same ∙ kept .1 ∙ sym same in
-    let d = figuresOf (day .metal) (day .marks) (fieldsOf s) in
-    let d′ = figuresOf (day .metal) (day .marks) (map (liftedField δ) (fieldsOf s)) in
+    let d = figuresOf (day .metal) (day .marks) (thirdOf (day .form)) (fieldsOf s) in
+    let d′ = figuresOf (day .metal) (day .marks) (thirdOf (day .form)) (map (liftedField δ) (fieldsOf s)) in
     record {
       accepted = accepted;
       before = closingsOf d;
       after = closingsOf d′;
       was = answers-are s day a;
-      is-now = answers-are _ day accepted ∙ ap (λ (fs : List Field). six day (closingsOf (figuresOf (day .metal) (day .marks) fs))) fields;
-      moves = figures-move (day .metal) (day .marks) (fieldsOf s) k (accepted-step s day 3M a);
+      is-now = answers-are _ day accepted ∙ ap (λ (fs : List Field). six day (closingsOf (figuresOf (day .metal) (day .marks) (thirdOf (day .form)) fs))) fields;
+      moves = figures-move (day .metal) (day .marks) (thirdOf (day .form)) (fieldsOf s) k (accepted-step s day 3M a);
     }
 
 -- so where neither sheet has a 14 at all, every contract is lifted, or refused as before

@@ -4,13 +4,13 @@
 --     shift      the law, for each contract up to which neither has a 14
 -- Assumes nothing.
 use Prim.Native.Nat.{ℕ, zero, suc, _+_, _-_, _*_, _≤_, _<_}
-use mathlib.Core.Path.{_≡_, refl, ap, ap₂, _∙_, subst}
+use mathlib.Core.Path.{_≡_, refl, sym, ap, ap₂, _∙_, subst}
 use mathlib.Core.Bool.{Bool, true, false, not, cond}
 use mathlib.Core.List.{List}
 use native.Mathlib.Nat.{add-mul}
 use native.Mathlib.Decide.{ℕ-discrete}
 use native.Mathlib.Omega.{arith}
-use borrow.Author.Tests.{leb-true, eqb-false}
+use borrow.Author.Tests.{leb-true, eqb-false, ne-eqb}
 use lib.Dec.{T, leb, eqb}
 use lib.IntN.{ℤ, pos, _+ℤ_, _*ℤ_}
 use lib.ListN.{getD, set, length, length-set}
@@ -18,7 +18,7 @@ use lib.Seq.{getD-set-same, getD-set-other}
 use Rattle.market.specs.declared.Leg.{Leg}
 use Rattle.market.specs.declared.Leg.the-variants.{Outright, Over, Under}
 use Rattle.market.specs.declared.Contract.{Contract}
-use Rattle.market.specs.Market.{minimumLots, legOf, contractOf, metalOf, stepOf, marked, windowLength, 3M}
+use Rattle.market.specs.Market.{minimumLots, legOf, contractOf, metalOf, stepOf, marked, isIn, named, windowLength, 3M}
 use Rattle.market.specs.laws.Rows.{window-length}
 use Rattle.market.specs.laws.Rules.{Earlier, Ruled, ruled}
 use Rattle.cents.specs.laws.Whole.{up, down, is, is-+, is--, is-*, is-pos, show-≡, *ℤ-+ℤ}
@@ -30,8 +30,7 @@ use Rattle.twap.specs.Span.{Span, missing, sum}
 use Rattle.price_rules.specs.declared.Method.{Method}
 use Rattle.price_rules.specs.declared.Mean.{Mean}
 use Rattle.price_rules.specs.declared.Mean.the-variants.{Of, Missing}
-use Rattle.price_rules.specs.declared.Known.{Known}
-use Rattle.price_rules.specs.Closing.{Figures, applied, lessOf, baseOf, impliedBy, dealsSum, vwapSum, vwapLots, twapBy, lotsOf, meanOf, Told, closed, answered, rowAnswer, answerBy, learnt, knownAt, answerOf}
+use Rattle.price_rules.specs.Closing.{Figures, applied, lessOf, baseOf, impliedBy, dealsSum, vwapSum, vwapLots, twapBy, lotsOf, meanOf, Told, closed, answered, rowAnswer, Known, answerBy, learnt, knownAt, answerOf}
 use Rattle.price_rules.specs.laws.Adding.{deals-are}
 use Rattle.six_answers.specs.laws.State.{View, price, no-price, view}
 use Rattle.laws.specs.Demand.{Moved, lifts, stays, InRange}
@@ -45,6 +44,7 @@ pub data LiftedSpan (δ : ℤ) : Span → Span → Type 0 where
 pub record Lifted (δ : ℤ) (d d′ : Figures) : Type 0 where
   pub metal : d′ .metal ≡ d .metal
   pub marks : d′ .marks ≡ d .marks
+  pub third : d′ .third ≡ d .third
   pub lots : lotsIn (d′ .trades 0) ≡ lotsIn (d .trades 0)
   pub value : valueIn (d′ .trades 0) ≡ valueIn (d .trades 0) +ℤ pos (lotsIn (d .trades 0)) *ℤ δ
   pub span : LiftedSpan δ (d .span 0) (d′ .span 0)
@@ -209,21 +209,28 @@ row-moved δ {d} {d′} up-by v c k k′ known h a b =
 
 -- ---- the contracts, in pricing order
 
--- what is known before contract c: the closes are lifted, and as many contracts were refused
+-- what is known before contract c: the closes are lifted, 3M's answer is, and as many contracts were refused
 record Along (δ : ℤ) (c : ℕ) (k k′ : Known) : Type 0 where
   stopped : k′ .stopped ≡ k .stopped
   closes : k .stopped ≡ false → Closes δ c (k .closes) (k′ .closes)
+  three : 1 ≤ c → k .stopped ≡ false → Moved δ (k .three) (k′ .three)
   long : length (k .closes) ≡ 6
   long′ : length (k′ .closes) ≡ 6
 
 never : (A : Type 0) → true ≡ false → A
 never A e = absurd (subst T e tt)
 
+-- 3M's answer, where that of contract c is learnt
+three-along : {δ : ℤ} {a a′ : Told} (c : ℕ) (k k′ : Known) → Along δ c k k′ → k .stopped ≡ false → Moved δ a a′ → Moved δ (learnt k c a .three) (learnt k′ c a′ .three)
+three-along zero k k′ s e m = m
+three-along (suc c) k k′ s e m = rw (ne-eqb (suc c) 3M (λ q. omega arith)) (s .three (omega arith) e)
+
 learnt-along : {δ : ℤ} {a a′ : Told} (c : ℕ) (k k′ : Known) → c < 6 → Along δ c k k′ → k .stopped ≡ false → Moved δ a a′ → Along δ (suc c) (learnt k c a) (learnt k′ c a′)
 unfolding Closes
 learnt-along {δ} c k k′ h s e (lifts {m = m} {m′ = m′} p) = record {
   stopped = refl;
   closes = λ q j l. by j l (ℕ-discrete j c);
+  three = λ l q. three-along c k k′ s e (lifts p);
   long = length-set (k .closes) c m ∙ s .long;
   long′ = length-set (k′ .closes) c m′ ∙ s .long′;
 }
@@ -231,25 +238,42 @@ learnt-along {δ} c k k′ h s e (lifts {m = m} {m′ = m′} p) = record {
     by : (j : ℕ) → j < suc c → Dec (j ≡ c) → pos (getD (set (k′ .closes) c m′) j 0) ≡ pos (getD (set (k .closes) c m) j 0) +ℤ δ
     by j l (yes q) = rw (q, getD-set-same (k .closes) c m 0 (omega (arith, s .long)), getD-set-same (k′ .closes) c m′ 0 (omega (arith, s .long′))) p
     by j l (no q) = rw (getD-set-other (k .closes) c j m 0 q, getD-set-other (k′ .closes) c j m′ 0 q) (s .closes e j (omega arith))
-learnt-along c k k′ h s e stays = record { stopped = refl; closes = λ q. never _ q; long = s .long; long′ = s .long′ }
+learnt-along c k k′ h s e stays = record { stopped = refl; closes = λ q. never _ q; three = λ l q. never _ q; long = s .long; long′ = s .long′ }
+
+-- no third value names 3M
+pub three-unnamed : (third : ℕ) → named third 3M ≡ false
+unfolding named isIn
+three-unnamed zero = refl
+three-unnamed (suc zero) = refl
+three-unnamed (suc (suc zero)) = refl
+three-unnamed (suc (suc (suc n))) = refl
 
 module _ (δ : ℤ) {d d′ : Figures} (up-by : Lifted δ d d′) (v : Divides (stepOf (d .metal) 3M) δ) where
+  -- a contract that is reached, by whether 3M is that contract
+  reached : (c : ℕ) (k k′ : Known) → c < 6 → Along δ c k k′ → k .stopped ≡ false → (n : Bool) → named (d .third) c ≡ n
+      → InRange (cond n (k .three) (rowAnswer d (k .closes) c)) → InRange (cond n (k′ .three) (rowAnswer d′ (k′ .closes) c))
+      → Moved δ (cond n (k .three) (rowAnswer d (k .closes) c)) (cond n (k′ .three) (rowAnswer d′ (k′ .closes) c))
+  reached zero k k′ h s e true q a b = never _ (sym q ∙ three-unnamed (d .third))
+  reached (suc c) k k′ h s e true q a b = s .three (omega arith) e
+  reached c k k′ h s e false q a b = row-moved δ up-by v c (k .closes) (k′ .closes) (s .closes e) h a b
+
   -- one contract
   step : (c : ℕ) (k k′ : Known) → c < 6 → Along δ c k k′ → InRange (answerBy d k c) → InRange (answerBy d′ k′ c)
       → Moved δ (answerBy d k c) (answerBy d′ k′ c) × Along δ (suc c) (learnt k c (answerBy d k c)) (learnt k′ c (answerBy d′ k′ c))
   step c k k′ h s a b = by (k .stopped) refl
     where
       by : (t : Bool) → k .stopped ≡ t → Moved δ (answerBy d k c) (answerBy d′ k′ c) × Along δ (suc c) (learnt k c (answerBy d k c)) (learnt k′ c (answerBy d′ k′ c))
-      by true e = rw (s .stopped, e) (stays, record { stopped = refl; closes = λ q. never _ q; long = s .long; long′ = s .long′ })
+      by true e = rw (s .stopped, e) (stays, record { stopped = refl; closes = λ q. never _ q; three = λ l q. never _ q; long = s .long; long′ = s .long′ })
       by false e =
-          let p : answerBy d k c ≡ rowAnswer d (k .closes) c = rw e in
-          let p′ : answerBy d′ k′ c ≡ rowAnswer d′ (k′ .closes) c = rw (s .stopped, e) in
-          let m = row-moved δ up-by v c (k .closes) (k′ .closes) (s .closes e) h (rw p at a) (rw p′ at b) in
+          let n = named (d .third) c in
+          let p : answerBy d k c ≡ cond n (k .three) (rowAnswer d (k .closes) c) = rw e in
+          let p′ : answerBy d′ k′ c ≡ cond n (k′ .three) (rowAnswer d′ (k′ .closes) c) = rw (s .stopped, e, up-by .third) in
+          let m = reached c k k′ h s e n refl (rw p at a) (rw p′ at b) in
           rw (p, p′) (m, learnt-along c k k′ h s e m)
 
   along : (c : ℕ) → c ≤ 6 → ((j : ℕ) → j < c → InRange (answerOf d j) × InRange (answerOf d′ j)) → Along δ c (knownAt d c) (knownAt d′ c)
   unfolding knownAt Closes
-  along zero h f = record { stopped = refl; closes = λ e j l. absurd (omega arith); long = refl; long′ = refl }
+  along zero h f = record { stopped = refl; closes = λ e j l. absurd (omega arith); three = λ l e. absurd (omega arith); long = refl; long′ = refl }
   along (suc c) h f = step c (knownAt d c) (knownAt d′ c) (omega arith) (along c (omega arith) (λ j l. f j (omega arith))) (f c (omega arith) .0) (f c (omega arith) .1) .1
 
 -- k whole steps; for each contract up to which neither has a 14

@@ -4,21 +4,21 @@
 --     turn       a turned spread gives the same
 -- Assumes nothing.
 use Prim.Native.Nat.{ℕ, zero, suc, _+_, _-_, _*_, _<_}
-use mathlib.Core.Path.{_≡_, refl, ap, ap₂}
-use mathlib.Core.Bool.{Bool, true, false, not}
+use mathlib.Core.Path.{_≡_, refl, ap, ap₂, _∙_}
+use mathlib.Core.Bool.{Bool, true, false, not, cond}
 use mathlib.Core.List.{List}
 use native.Mathlib.Decide.{ℕ-discrete}
 use native.Mathlib.Omega.{arith}
 use lib.IntN.{ℤ, pos, negℤ, _+ℤ_, negℤ-negℤ}
 use Rattle.market.specs.declared.Leg.{Leg}
 use Rattle.market.specs.declared.Leg.the-variants.{Outright, Over, Under}
-use Rattle.market.specs.Market.{legOf, contractOf, marked, windowLength}
+use Rattle.market.specs.Market.{legOf, contractOf, marked, named, windowLength}
 use Rattle.market.specs.laws.Rules.{Earlier, pricedOf, leg-earlier}
 use Rattle.trades.specs.Trades.{lotsIn, valueIn}
 use Rattle.twap.specs.Span.{Span, missing, sum}
 use Rattle.price_rules.specs.declared.Mean.the-variants.{Of}
 use Rattle.price_rules.specs.declared.Method.the-variants.{Twap}
-use Rattle.price_rules.specs.Closing.{Figures, applied, lessOf, baseOf, impliedBy, dealsSum, vwapSum, vwapLots, twapBy, rowAnswer, knownAt, answerOf, closingsOf}
+use Rattle.price_rules.specs.Closing.{Figures, applied, lessOf, baseOf, impliedBy, dealsSum, vwapSum, vwapLots, twapBy, Told, refused, rowAnswer, Known, answerBy, learnt, knownAt, answerOf, closingsOf}
 use Rattle.price_rules.specs.laws.Adding.{deals-are}
 
 -- ---- the answers go only by what each instrument gives
@@ -30,6 +30,7 @@ pub record Gives (d d′ : Figures) (i : ℕ) : Type 0 where
 
 pub record Alike (d d′ : Figures) : Type 0 where
   pub metal : d′ .metal ≡ d .metal
+  pub third : d′ .third ≡ d .third
   pub gives : (i : ℕ) → Gives d d′ i
 
 module _ {d d′ : Figures} (same : Alike d d′) where
@@ -49,13 +50,16 @@ module _ {d d′ : Figures} (same : Alike d d′) where
       let r = contractOf c in
       rw (alike-sum closes (r .first) (r .past - r .first), alike-lots (r .first) (r .past - r .first), same .metal, same .gives (r .twap) .twap closes) refl
 
+  alike-by : (k : Known) (c : ℕ) → answerBy d′ k c ≡ answerBy d k c
+  alike-by k c = ap₂ (λ (n : Bool) (x : Told). cond (k .stopped) (refused 15 0) (cond n (k .three) x)) (ap (λ (t : ℕ). named t c) (same .third)) (alike-row (k .closes) c)
+
   alike-known : (c : ℕ) → knownAt d′ c ≡ knownAt d c
   unfolding knownAt
   alike-known zero = refl
-  alike-known (suc c) = rw (alike-known c, alike-row (knownAt d c .closes) c) refl
+  alike-known (suc c) = ap (λ (k : Known). learnt k c (answerBy d′ k c)) (alike-known c) ∙ ap (learnt (knownAt d c) c) (alike-by (knownAt d c) c)
 
   alike-answer : (c : ℕ) → answerOf d′ c ≡ answerOf d c
-  alike-answer c = rw (alike-known c, alike-row (knownAt d c .closes) c) refl
+  alike-answer c = ap (λ (k : Known). answerBy d′ k c) (alike-known c) ∙ alike-by (knownAt d c) c
 
   pub alike : closingsOf d′ ≡ closingsOf d
   unfolding closingsOf
@@ -69,6 +73,7 @@ turnedSpan (sum s) = sum (negℤ s)
 
 pub record Turned (i : ℕ) (d d′ : Figures) : Type 0 where
   pub metal : d′ .metal ≡ d .metal
+  pub third : d′ .third ≡ d .third
   pub mark : marked (d′ .marks) i ≡ not (marked (d .marks) i)
   pub lots : lotsIn (d′ .trades i) ≡ lotsIn (d .trades i)
   pub value : valueIn (d′ .trades i) ≡ negℤ (valueIn (d .trades i))
@@ -120,7 +125,7 @@ module _ (k : ℕ) (small : k < 11) {d d′ : Figures} (t : Turned (suc k) d d�
   }
 
   turned-alike : Alike d d′
-  turned-alike = record { metal = t .metal; gives = λ j. by j (ℕ-discrete j (suc k)) }
+  turned-alike = record { metal = t .metal; third = t .third; gives = λ j. by j (ℕ-discrete j (suc k)) }
     where
       by : (j : ℕ) → Dec (j ≡ suc k) → Gives d d′ j
       by j (yes e) = rw e turned-gives

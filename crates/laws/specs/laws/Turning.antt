@@ -15,17 +15,19 @@ use lib.Signed.{leZ, leZ-yes}
 use Rattle.wire.specs.Big.{Bytes}
 use Rattle.cents.specs.laws.Whole.{is, is-neg, is-*, is-pos, show-≡, show-≤, read-≤}
 use Rattle.field.specs.declared.Price.{Price}
+use Rattle.field.specs.declared.Form.{Form}
+use Rattle.field.specs.declared.Before.{Before}
 use Rattle.field.specs.declared.Field.{Field}
 use Rattle.field.specs.declared.Field.the-variants.{Header, PreviousClose, Trade, Quote, End}
-use Rattle.field.specs.Judging.{both, pick, ifPresent, ifAbsent, centsWithin, headerRight, priceRight, hasBid, hasOffer}
-use Rattle.field.specs.Layout.{tagOf}
+use Rattle.field.specs.Judging.{both, pick, ifPresent, ifAbsent, centsWithin, thirdOf, headerRight, priceRight, hasBid, hasOffer, alone}
 use Rattle.field.specs.laws.Field.{both-true, both-holds}
 use Rattle.field.specs.laws.Sound.{Sound, SoundQuote}
 use Rattle.market.specs.Market.{startOf}
+use Rattle.admit.specs.laws.Admitting.{Later}
 use Rattle.sheet.specs.declared.Day.{Day}
 use Rattle.sheet.specs.Fields.{fieldsOf, encode, Each}
 use Rattle.sheet.specs.Judgement.{accepts, judgeSheet}
-use Rattle.sheet.specs.laws.Accepted.{Without, accepted-header, accepted-sound}
+use Rattle.sheet.specs.laws.Accepted.{accepted-header, accepted-right, accepted-sound}
 use Rattle.sheet.specs.laws.Encoding.{accepted-encodes}
 use Rattle.trades.specs.Trades.{Deal, tradesIn, lotsIn, valueIn}
 use Rattle.indicator.specs.Indicator.{twapSum, hasReference}
@@ -37,7 +39,7 @@ use Rattle.twap.specs.Span.{missing, sum, spanOf}
 use Rattle.price_rules.specs.Closing.{figuresOf, closingsOf, six}
 use Rattle.laws.specs.Demand.{turnedMarks, remarked, turnedField, turned, turnedDay, TurnLaw, TwiceLaw}
 use Rattle.laws.specs.laws.Marks.{xor-twice, mark-turned, mark-kept, marks-small}
-use Rattle.laws.specs.laws.Kept.{Right, tag-same, right-changed, changedFields, changed-accepted}
+use Rattle.laws.specs.laws.Kept.{Right, changed-all, right-changed, changedFields, changed-accepted}
 use Rattle.laws.specs.laws.Figures.{repricedDeal, trades-changed, trades-others, lots-kept, trades-header, span-header, span-others, le-true}
 use Rattle.laws.specs.laws.Lift.{answers-are}
 use Rattle.laws.specs.laws.Turn.{turnedSpan, Turned, turn}
@@ -94,8 +96,8 @@ bid-is-offer sides = ap (λ (n : ℕ). eqb n 1) (low-bit sides)
 offer-is-bid : (sides : ℕ) → hasOffer (exchanged sides) ≡ hasBid sides
 offer-is-bid sides = ap (λ (n : ℕ). eqb n 1) (high-bit sides)
 
-quote-turned : (least time k sides : ℕ) (bid offer : Price) → SoundQuote least time (suc k) sides bid offer → SoundQuote least time (suc k) (exchanged sides) (turnPrice offer) (turnPrice bid)
-quote-turned least time k sides bid offer h =
+quote-turned : (before : Before) (time k sides : ℕ) (bid offer : Price) → SoundQuote before time (suc k) sides bid offer → SoundQuote before time (suc k) (exchanged sides) (turnPrice offer) (turnPrice bid)
+quote-turned before time k sides bid offer h =
     let absent = both-true _ _ (both-true _ _ (h .sides-in) .1) in
     let there = both-true _ _ (h .prices-in) in
     let most : exchanged sides ≤ 3 = omega arith in
@@ -116,15 +118,15 @@ turn-right k fs =
     right-changed (suc k) turnPrice turnSides (λ f. Unit {0})
     (λ price ok h. price-turned k price h)
     (λ time price lots ok h. price-turned k price h)
-    (λ least time sides bid offer ok h. quote-turned least time k sides bid offer h)
+    (λ before time sides bid offer ok h. quote-turned before time k sides bid offer h)
     fs (each-unit fs)
 
 -- ---- a turned sheet's figures
 
 -- no accepted quote has a bid above its offer
-fair-sound : (fs : List Field) → Each (Sound 0) fs → Fair fs
+fair-sound : (fs : List Field) → Each (Sound alone) fs → Fair fs
 fair-sound [] h = tt
-fair-sound (Header metal marks ∷ fs) h = fair-sound fs (h .1)
+fair-sound (Header metal marks form ∷ fs) h = fair-sound fs (h .1)
 fair-sound (PreviousClose instrument price ∷ fs) h = fair-sound fs (h .1)
 fair-sound (Trade time instrument price lots ∷ fs) h = fair-sound fs (h .1)
 fair-sound (Quote time instrument sides bid offer ∷ fs) h = (h .0 .in-order, fair-sound fs (h .1))
@@ -147,43 +149,53 @@ span-turned i start fs fair = ap₂ (λ (b : Bool) (z : ℤ). cond b (sum z) mis
     by false = refl
 
 -- behind a header whose mark is turned too
-figures-turned : (i metal marks : ℕ) (rest : List Field) → 1 ≤ i → Fair (Header metal marks ∷ rest)
-    → Turned i (figuresOf metal marks (Header metal marks ∷ rest)) (figuresOf metal (turnedMarks i marks) (Header metal (turnedMarks i marks) ∷ map (changed i turnField) rest))
+figures-turned : (i metal marks third : ℕ) (form : Form) (rest : List Field) → 1 ≤ i → Fair (Header metal marks form ∷ rest)
+    → Turned i (figuresOf metal marks third (Header metal marks form ∷ rest)) (figuresOf metal (turnedMarks i marks) third (Header metal (turnedMarks i marks) form ∷ map (changed i turnField) rest))
 unfolding figuresOf
-figures-turned i metal marks rest low fair =
-    let fs = Header metal marks ∷ rest in
-    let own = trades-header metal i metal (turnedMarks i marks) marks (map (changed i turnField) rest) ∙ trades-changed metal i turnPrice turnSides fs in
+figures-turned i metal marks third form rest low fair =
+    let fs = Header metal marks form ∷ rest in
+    let own = trades-header metal i metal (turnedMarks i marks) marks form (map (changed i turnField) rest) ∙ trades-changed metal i turnPrice turnSides fs in
     record {
       metal = refl;
+      third = refl;
       mark = mark-turned marks i low;
       lots = ap lotsIn own ∙ lots-kept turnPrice (tradesIn metal i fs);
       value = ap valueIn own ∙ value-turned (tradesIn metal i fs);
-      span = span-header i (startOf metal i) metal (turnedMarks i marks) marks (map (changed i turnField) rest) ∙ span-turned i (startOf metal i) fs fair;
+      span = span-header i (startOf metal i) metal (turnedMarks i marks) marks form (map (changed i turnField) rest) ∙ span-turned i (startOf metal i) fs fair;
       marks-stay = λ j h. mark-kept marks i j low h;
-      trades-stay = λ j h. trades-header metal j metal (turnedMarks i marks) marks (map (changed i turnField) rest) ∙ trades-others metal i turnPrice turnSides j h fs;
-      spans-stay = λ j h. span-header j (startOf metal j) metal (turnedMarks i marks) marks (map (changed i turnField) rest) ∙ span-others i j (startOf metal j) turnPrice turnSides h fs;
+      trades-stay = λ j h. trades-header metal j metal (turnedMarks i marks) marks form (map (changed i turnField) rest) ∙ trades-others metal i turnPrice turnSides j h fs;
+      spans-stay = λ j h. span-header j (startOf metal j) metal (turnedMarks i marks) marks form (map (changed i turnField) rest) ∙ span-others i j (startOf metal j) turnPrice turnSides h fs;
     }
 
 -- ---- the law
 
 -- only the header has marks
-remarked-other : (m : ℕ → ℕ) (f : Field) → (tagOf f ≡ 1 → ⊥) → remarked m f ≡ f
-unfolding tagOf
-remarked-other m (Header metal marks) h = absurd (h refl)
+remarked-other : (m : ℕ → ℕ) (f : Field) → Later f → remarked m f ≡ f
+remarked-other m (Header metal marks form) h = absurd h
 remarked-other m (PreviousClose instrument price) h = refl
 remarked-other m (Trade time instrument price lots) h = refl
 remarked-other m (Quote time instrument sides bid offer) h = refl
 remarked-other m (End count) h = refl
 
-turned-other : (i : ℕ) (fs : List Field) → Without 1 fs → map (turnedField i) fs ≡ map (changed i turnField) fs
+later-turned : (i : ℕ) (f : Field) → Later f → Later (changed i turnField f)
+later-turned i f h = changed-all Later i turnField f (later-repriced f h) h
+  where
+    later-repriced : (f : Field) → Later f → Later (turnField f)
+    later-repriced (Header metal marks form) h = h
+    later-repriced (PreviousClose instrument price) h = h
+    later-repriced (Trade time instrument price lots) h = h
+    later-repriced (Quote time instrument sides bid offer) h = h
+    later-repriced (End count) h = h
+
+turned-other : (i : ℕ) (fs : List Field) → Each Later fs → map (turnedField i) fs ≡ map (changed i turnField) fs
 turned-other i [] h = refl
-turned-other i (f ∷ fs) h = ap₂ _∷_ (remarked-other (turnedMarks i) (changed i turnField f) (λ e. h .0 (sym (tag-same i turnPrice turnSides f) ∙ e))) (turned-other i fs (h .1))
+turned-other i (f ∷ fs) h = ap₂ _∷_ (remarked-other (turnedMarks i) (changed i turnField f) (later-turned i f (h .0))) (turned-other i fs (h .1))
 
 -- the fields of the turned sheet, and that they are read back
 record TurnedFields (i : ℕ) (s : List ℕ) (day : Day) : Type 0 where
   rest : List Field
-  is-before : fieldsOf s ≡ Header (day .metal) (day .marks) ∷ rest
-  is-after : map (turnedField i) (fieldsOf s) ≡ Header (day .metal) (turnedMarks i (day .marks)) ∷ map (changed i turnField) rest
+  is-before : fieldsOf s ≡ Header (day .metal) (day .marks) (day .form) ∷ rest
+  is-after : map (turnedField i) (fieldsOf s) ≡ Header (day .metal) (turnedMarks i (day .marks)) (day .form) ∷ map (changed i turnField) rest
   judged : judgeSheet (turned i s) ≡ accepts (turnedDay i day)
   read : fieldsOf (turned i s) ≡ map (turnedField i) (fieldsOf s)
 
@@ -194,9 +206,10 @@ turned-fields s day b a (suc k) low high =
     let i = suc k in
     let first = accepted-header s day a in
     let m = turnedMarks i (day .marks) in
-    let same : map (turnedField i) (fieldsOf s) ≡ changedFields s day b a i turnPrice turnSides m = ap (map (turnedField i)) (first .is) ∙ ap (λ (fs : List Field). Header (day .metal) m ∷ fs) (turned-other i (first .rest) (first .alone)) in
-    let header = both-true _ _ (subst (Each (Sound 0)) (first .is) (accepted-sound s day a) .0) in
-    let right : headerRight (day .metal) m ≡ true = both-holds _ _ (header .0) (le-leb m 2047 (marks-small (day .marks) i (leb-true (day .marks) 2047 (header .1)) low high)) in
+    let same : map (turnedField i) (fieldsOf s) ≡ changedFields s day b a i turnPrice turnSides m = ap (map (turnedField i)) (first .is) ∙ ap (λ (fs : List Field). Header (day .metal) m (day .form) ∷ fs) (turned-other i (first .rest) (first .only)) in
+    let header = both-true _ _ (accepted-right s day a) in
+    let marks = both-true _ _ (header .1) in
+    let right : headerRight (day .metal) m (thirdOf (day .form)) ≡ true = both-holds _ _ (header .0) (both-holds _ _ (le-leb m 2047 (marks-small (day .marks) i (leb-true (day .marks) 2047 (marks .0)) low high)) (marks .1)) in
     let kept = changed-accepted s day b a i turnPrice turnSides m right (turn-right k (first .rest)) in
     record {
       rest = first .rest;
@@ -213,16 +226,16 @@ turns s day (suc k) b a low high =
     let i = suc k in
     let m = turnedMarks i (day .marks) in
     let t = turned-fields s day b a i low high in
-    let fair = fair-sound (Header (day .metal) (day .marks) ∷ t .rest) (subst (Each (Sound 0)) (t .is-before) (accepted-sound s day a)) in
+    let fair = fair-sound (Header (day .metal) (day .marks) (day .form) ∷ t .rest) (subst (Each (Sound alone)) (t .is-before) (accepted-sound s day a)) in
     record {
       accepted = t .judged;
-      answers = closingsOf (figuresOf (day .metal) (day .marks) (fieldsOf s));
+      answers = closingsOf (figuresOf (day .metal) (day .marks) (thirdOf (day .form)) (fieldsOf s));
       was = answers-are s day a;
       is-now =
           answers-are (turned i s) (turnedDay i day) (t .judged)
-          ∙ ap (λ (fs : List Field). six (turnedDay i day) (closingsOf (figuresOf (day .metal) m fs))) (t .read ∙ t .is-after)
-          ∙ ap (six (turnedDay i day)) (turn k (omega arith) (figures-turned i (day .metal) (day .marks) (t .rest) low fair))
-          ∙ ap (λ (fs : List Field). six (turnedDay i day) (closingsOf (figuresOf (day .metal) (day .marks) fs))) (sym (t .is-before));
+          ∙ ap (λ (fs : List Field). six (turnedDay i day) (closingsOf (figuresOf (day .metal) m (thirdOf (day .form)) fs))) (t .read ∙ t .is-after)
+          ∙ ap (six (turnedDay i day)) (turn k (omega arith) (figures-turned i (day .metal) (day .marks) (thirdOf (day .form)) (day .form) (t .rest) low fair))
+          ∙ ap (λ (fs : List Field). six (turnedDay i day) (closingsOf (figuresOf (day .metal) (day .marks) (thirdOf (day .form)) fs))) (sym (t .is-before));
     }
 
 -- ---- twice
@@ -235,8 +248,8 @@ changed-twice i g f same undone = by-test (concerns i f) refl
     by-test true e = rw (same ∙ e) undone
     by-test false e = rw e refl
 
-turn-twice : (f : Field) → Sound 0 f → turnField (turnField f) ≡ f
-turn-twice (Header metal marks) h = refl
+turn-twice : (f : Field) → Sound alone f → turnField (turnField f) ≡ f
+turn-twice (Header metal marks form) h = refl
 turn-twice (PreviousClose instrument price) h = rw (negℤ-negℤ (price .cents)) refl
 turn-twice (Trade time instrument price lots) h = rw (negℤ-negℤ (price .cents)) refl
 turn-twice (Quote time instrument sides bid offer) h =
@@ -245,23 +258,21 @@ turn-twice (Quote time instrument sides bid offer) h =
 turn-twice (End count) h = refl
 
 module _ (i : ℕ) where
-  other-twice : (f : Field) → Sound 0 f → (tagOf f ≡ 1 → ⊥) → turnedField i (turnedField i f) ≡ f
+  other-twice : (f : Field) → Sound alone f → Later f → turnedField i (turnedField i f) ≡ f
   other-twice f h n =
       let g = changed i turnField f in
-      let tag = tag-same i turnPrice turnSides f in
-      ap (turnedField i) (remarked-other (turnedMarks i) g (λ e. n (sym tag ∙ e)))
-      ∙ remarked-other (turnedMarks i) (changed i turnField g) (λ e. n (sym tag ∙ sym (tag-same i turnPrice turnSides g) ∙ e))
+      ap (turnedField i) (remarked-other (turnedMarks i) g (later-turned i f n))
+      ∙ remarked-other (turnedMarks i) (changed i turnField g) (later-turned i g (later-turned i f n))
       ∙ changed-twice i turnField f (repriced-keeps turnPrice turnSides .instrument i f) (turn-twice f h)
 
-  field-twice : (f : Field) → Sound 0 f → turnedField i (turnedField i f) ≡ f
-  unfolding tagOf
-  field-twice (Header metal marks) h = ap (Header metal) (xor-twice marks _)
-  field-twice (PreviousClose instrument price) h = other-twice (PreviousClose instrument price) h (λ e. omega arith)
-  field-twice (Trade time instrument price lots) h = other-twice (Trade time instrument price lots) h (λ e. omega arith)
-  field-twice (Quote time instrument sides bid offer) h = other-twice (Quote time instrument sides bid offer) h (λ e. omega arith)
-  field-twice (End count) h = other-twice (End count) h (λ e. omega arith)
+  field-twice : (f : Field) → Sound alone f → turnedField i (turnedField i f) ≡ f
+  field-twice (Header metal marks form) h = ap (λ (n : ℕ). Header metal n form) (xor-twice marks _)
+  field-twice (PreviousClose instrument price) h = other-twice (PreviousClose instrument price) h tt
+  field-twice (Trade time instrument price lots) h = other-twice (Trade time instrument price lots) h tt
+  field-twice (Quote time instrument sides bid offer) h = other-twice (Quote time instrument sides bid offer) h tt
+  field-twice (End count) h = other-twice (End count) h tt
 
-  fields-twice : (fs : List Field) → Each (Sound 0) fs → map (turnedField i) (map (turnedField i) fs) ≡ fs
+  fields-twice : (fs : List Field) → Each (Sound alone) fs → map (turnedField i) (map (turnedField i) fs) ≡ fs
   fields-twice [] h = refl
   fields-twice (f ∷ fs) h = ap₂ _∷_ (field-twice f (h .0)) (fields-twice fs (h .1))
 

@@ -13,8 +13,14 @@ ruleset reading = (line-1, line-2, line-3, line-4, line-5, line-6, end-least, en
 slice-aggregate-of-three : tie.Need-slice-aggregate-of-three
 slice-aggregate-of-three c = sym (length-take-le _ _ (omega arith))
 
+slice-aggregate-of-four : tie.Need-slice-aggregate-of-four
+slice-aggregate-of-four c = sym (length-take-le _ _ (omega arith))
+
 slice-aggregate-of-five : tie.Need-slice-aggregate-of-five
 slice-aggregate-of-five c = sym (length-take-le _ _ (omega arith))
+
+part-of-four-end-3 : tie.Need-part-of-four-end-3
+part-of-four-end-3 c = let at = c .before .before .before .before in end-most _ _ _ _ (at .end-of4 .ensures) (at .before .if3 .left)
 
 part-of-five-end-4 : tie.Need-part-of-five-end-4
 part-of-five-end-4 c = let at = c .before .before .before .before .before in end-most _ _ _ _ (at .end-of5 .ensures) (at .before .if4 .left)
@@ -40,6 +46,17 @@ read-line-spec =
     (λ c κs. search needs)
     (λ c. search reading)
     (λ c. search needs)
+    (λ c κs. search needs)
+    slice-aggregate-of-four
+    (λ c. search reading)
+    (λ c. search reading)
+    (λ c. search needs)
+    (λ c. search reading)
+    (λ c. search reading)
+    (λ c. search needs)
+    (λ c. search needs)
+    (λ c. search needs)
+    part-of-four-end-3
     (λ c κs. search needs)
     (λ c. search reading)
     (λ c. search needs)

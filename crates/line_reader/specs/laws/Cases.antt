@@ -14,6 +14,8 @@ use Rattle.numerals.specs.declared.Number.the-variants as N
 use Rattle.numerals.specs.Numerals.{number}
 use Rattle.numerals.specs.laws.Numerals.{clash, number-most}
 use Rattle.field.specs.declared.Price.{Price}
+use Rattle.field.specs.declared.Form.{Form}
+use Rattle.field.specs.declared.Form.the-variants.{Short, Long}
 use Rattle.field.specs.declared.Field.the-variants as F
 use Rattle.dollars.specs.declared.Money.{Money}
 use Rattle.dollars.specs.declared.Money.the-variants as M
@@ -26,7 +28,7 @@ use Rattle.line_reader.specs.declared.Side.{Side}
 use Rattle.line_reader.specs.declared.Side.the-variants as S
 use Rattle.line_reader.specs.declared.Line.{Line}
 use Rattle.line_reader.specs.declared.Line.the-variants.{Field as Says, Malformed}
-use Rattle.line_reader.specs.Lines.{paid, sideIn, tradeIn, quoteIn, headerIn, previousIn, three, five, fieldOfItems, fieldIn}
+use Rattle.line_reader.specs.Lines.{paid, sideIn, tradeIn, quoteIn, headerIn, longHeaderIn, previousIn, three, four, five, fieldOfItems, fieldIn}
 
 -- ---- a side
 
@@ -86,17 +88,25 @@ pub quote-all : (a b c d : List ℕ) (r0 : Number) (t : ℕ) → r0 ≡ number 4
 unfolding quoteIn
 quote-all a b c d r0 t q0 e0 r1 i q1 e1 r2 x p q2 e2 r3 y o q3 e3 = simp (sym q0, e0, sym q1, e1, sym q2, e2, sym q3, e3)
 
-pub metal-0 : (a b : List ℕ) (r0 : Number) → r0 ≡ metalIn a → r0 ≡ N.Malformed → Malformed ≡ headerIn a b
+pub metal-0 : (a b : List ℕ) (form : Form) (r0 : Number) → r0 ≡ metalIn a → r0 ≡ N.Malformed → Malformed ≡ headerIn a b form
 unfolding headerIn
-metal-0 a b r0 q0 e = simp (sym q0, e)
+metal-0 a b form r0 q0 e = simp (sym q0, e)
 
-pub metal-1 : (a b : List ℕ) (r0 : Number) (m : ℕ) → r0 ≡ metalIn a → r0 ≡ N.Value m → (r1 : Number) → r1 ≡ number 65535 b → r1 ≡ N.Malformed → Malformed ≡ headerIn a b
+pub metal-1 : (a b : List ℕ) (form : Form) (r0 : Number) (m : ℕ) → r0 ≡ metalIn a → r0 ≡ N.Value m → (r1 : Number) → r1 ≡ number 65535 b → r1 ≡ N.Malformed → Malformed ≡ headerIn a b form
 unfolding headerIn
-metal-1 a b r0 m q0 e0 r1 q1 e = simp (sym q0, e0, sym q1, e)
+metal-1 a b form r0 m q0 e0 r1 q1 e = simp (sym q0, e0, sym q1, e)
 
-pub metal-all : (a b : List ℕ) (r0 : Number) (m : ℕ) → r0 ≡ metalIn a → r0 ≡ N.Value m → (r1 : Number) (k : ℕ) → r1 ≡ number 65535 b → r1 ≡ N.Value k → Says (F.Header m k) ≡ headerIn a b
+pub metal-all : (a b : List ℕ) (form : Form) (r0 : Number) (m : ℕ) → r0 ≡ metalIn a → r0 ≡ N.Value m → (r1 : Number) (k : ℕ) → r1 ≡ number 65535 b → r1 ≡ N.Value k → Says (F.Header m k form) ≡ headerIn a b form
 unfolding headerIn
-metal-all a b r0 m q0 e0 r1 k q1 e1 = simp (sym q0, e0, sym q1, e1)
+metal-all a b form r0 m q0 e0 r1 k q1 e1 = simp (sym q0, e0, sym q1, e1)
+
+pub long-0 : (a b c : List ℕ) (r0 : Number) → r0 ≡ number 255 c → r0 ≡ N.Malformed → Malformed ≡ longHeaderIn a b c
+unfolding longHeaderIn
+long-0 a b c r0 q0 e = simp (sym q0, e)
+
+pub long-all : (a b c : List ℕ) (r0 : Number) (t : ℕ) → r0 ≡ number 255 c → r0 ≡ N.Value t → (r : Line) → r ≡ headerIn a b (Long t) → r ≡ longHeaderIn a b c
+unfolding longHeaderIn
+long-all a b c r0 t q0 e0 r e = simp (sym q0, e0, e)
 
 pub previous-0 : (a b : List ℕ) (r0 : Number) → r0 ≡ instrumentIn a → r0 ≡ N.Malformed → Malformed ≡ previousIn a b
 unfolding previousIn
@@ -114,6 +124,9 @@ previous-all a b r0 i q0 e0 r1 p q1 e1 = simp (sym q0, e0, sym q1, e1)
 
 pub fits-wide : (s : List ℕ) (r : Number) (n : ℕ) → r ≡ number 65535 s → r ≡ N.Value n → Fits w16 n
 fits-wide s r n q e = record { fits = omega (arith, number-most _ _ _ (sym q ∙ e)) }
+
+pub fits-third : (s : List ℕ) (r : Number) (n : ℕ) → r ≡ number 255 s → r ≡ N.Value n → Fits w8 n
+fits-third s r n q e = record { fits = omega (arith, number-most _ _ _ (sym q ∙ e)) }
 
 pub fits-instrument : (s : List ℕ) (r : Number) (n : ℕ) → r ≡ instrumentIn s → r ≡ N.Value n → Fits w8 n
 fits-instrument s r n q e = record { fits = omega (arith, instrument-found _ _ (sym q ∙ e) .0) }
@@ -136,10 +149,10 @@ fits-twice s r b p q e = record { fits = omega (arith, side-bit s b p (sym q ∙
 pub fits-sides : (s : List ℕ) (r : Side) (b : ℕ) (p : Price) (s′ : List ℕ) (r′ : Side) (b′ : ℕ) (p′ : Price) → r ≡ sideIn s → r ≡ S.Is b p → r′ ≡ sideIn s′ → r′ ≡ S.Is b′ p′ → Fits w8 (b + 2 * b′)
 fits-sides s r b p s′ r′ b′ p′ q e q′ e′ = record { fits = omega (arith, side-bit s b p (sym q ∙ e), side-bit s′ b′ p′ (sym q′ ∙ e′)) }
 
--- ---- three items, and five
+-- ---- three items, four, and five
 
 module _ (a b c : List ℕ) (t : Bool) (q : t ≡ same (ascii "METAL") a) where
-  pub three-metal : t ≡ true → (r : Line) → r ≡ headerIn b c → r ≡ three a b c
+  pub three-metal : t ≡ true → (r : Line) → r ≡ headerIn b c Short → r ≡ three a b c
   unfolding three
   three-metal h r e = simp (sym q, h, e)
 
@@ -151,6 +164,15 @@ module _ (a b c : List ℕ) (t : Bool) (q : t ≡ same (ascii "METAL") a) where
     pub three-other : u ≡ false → Malformed ≡ three a b c
     unfolding three
     three-other g = simp (sym q, h, sym p, g)
+
+module _ (a b c d : List ℕ) (t : Bool) (q : t ≡ same (ascii "METAL") a) where
+  pub four-metal : t ≡ true → (r : Line) → r ≡ longHeaderIn b c d → r ≡ four a b c d
+  unfolding four
+  four-metal h r e = simp (sym q, h, e)
+
+  pub four-other : t ≡ false → Malformed ≡ four a b c d
+  unfolding four
+  four-other h = simp (sym q, h)
 
 module _ (a b c d e : List ℕ) (t : Bool) (q : t ≡ same (ascii "TRADE") c) where
   pub five-trade : t ≡ true → (r : Line) → r ≡ tradeIn a b d e → r ≡ five a b c d e
@@ -187,9 +209,12 @@ module _ (s : List ℕ) (a : ℕ) (qa : a ≡ endOf 44 s 0) where
           ∙ sym (ap fieldOfItems (next-item 44 s 0 a qa ha _ (next-item 44 s (a + 1) b qb hb _ (last-item 44 s (b + 1) c qc h))))
 
       module _ (hc : c < length s) (d : ℕ) (qd : d ≡ endOf 44 s (c + 1)) where
-        pub line-4 : length s ≤ d → Malformed ≡ fieldIn s
+        pub line-4 : length s ≤ d → (r : Line) → r ≡ four (take a s) (take (b - (a + 1)) (drop (a + 1) s)) (take (c - (b + 1)) (drop (b + 1) s)) (take (d - (c + 1)) (drop (c + 1) s)) → r ≡ fieldIn s
         unfolding fieldIn fieldOfItems
-        line-4 h = sym (ap fieldOfItems (next-item 44 s 0 a qa ha _ (next-item 44 s (a + 1) b qb hb _ (next-item 44 s (b + 1) c qc hc _ (last-item 44 s (c + 1) d qd h)))))
+        line-4 h r e =
+            let z : a - 0 ≡ a = omega arith in
+            e ∙ ap (λ (v : ℕ). four (take v s) (take (b - (a + 1)) (drop (a + 1) s)) (take (c - (b + 1)) (drop (b + 1) s)) (take (d - (c + 1)) (drop (c + 1) s))) (sym z)
+            ∙ sym (ap fieldOfItems (next-item 44 s 0 a qa ha _ (next-item 44 s (a + 1) b qb hb _ (next-item 44 s (b + 1) c qc hc _ (last-item 44 s (c + 1) d qd h)))))
 
         module _ (hd : d < length s) (e : ℕ) (qe : e ≡ endOf 44 s (d + 1)) where
           pub line-5 : length s ≤ e → (r : Line) → r ≡ five (take a s) (take (b - (a + 1)) (drop (a + 1) s)) (take (c - (b + 1)) (drop (b + 1) s)) (take (d - (c + 1)) (drop (c + 1) s)) (take (e - (d + 1)) (drop (d + 1) s)) → r ≡ fieldIn s

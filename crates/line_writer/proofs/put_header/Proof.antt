@@ -9,7 +9,16 @@ use Rattle.line_writer.proofs.put_header.Tie as tie
 returns : tie.Need-returns
 unfolding lineText
 returns c =
-    let a = c .before .before .before .before .before .before .before .before .before .before .before .before .before .before .before .before .before .before .before .before .before .before .before .before .args in same-bytes (header-line (a .metal) (a .marks)) (then (c .before .before .before .before .before .before .before .before .before .before .before .before .before .before .before .before .before .before .before .before .put .ensures) (then (c .before .before .before .before .before .before .before .before .before .before .before .before .before .before .before .before .put-metal .ensures) (then (c .before .before .before .before .before .before .before .before .before .before .before .put2 .ensures) (then (c .before .before .before .before .before .before .before .put-number .ensures) (c .before .before .put3 .ensures)))))
+    let marked = c .before .before .before .before .before .before .before in
+    let named = marked .before .before .before .before .before .before .before .before in
+    let start = named .before .before .before .before .before .before .before .before .before in
+    let a = start .before .before .before .before .args in
+    same-bytes (header-line (a .metal) (a .marks) (a .form))
+    (then (start .put .ensures)
+    (then (named .before .before .before .before .before .put-metal .ensures)
+    (then (named .put2 .ensures)
+    (then (marked .before .before .before .before .put-number .ensures)
+    (then (marked .put-form .ensures) (c .before .before .put3 .ensures))))))
 
 pub put-header-spec : {M : Type 1} → statement M
 put-header-spec =
@@ -19,6 +28,7 @@ put-header-spec =
     (λ c κs. search needs)
     (λ c κs. search needs)
     (λ c. search needs)
+    (λ c κs. search needs)
     (λ c κs. search needs)
     (λ c κs. search needs)
     (λ c. search needs)

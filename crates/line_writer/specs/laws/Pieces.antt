@@ -1,7 +1,7 @@
 -- The pieces that the code puts are those of the line, and a line that is put stands whole. Assumes nothing.
 use Prim.Native.Nat.{ℕ, suc, _+_, _-_, _≤_, _<_}
 use mathlib.Core.Bool.{Bool, true, false}
-use mathlib.Core.Path.{_≡_, sym, ap, subst}
+use mathlib.Core.Path.{_≡_, refl, sym, ap, subst}
 use mathlib.Core.List.{List, _∷_, _++_}
 use native.Mathlib.Omega.{arith}
 use lib.IntN.{ℤ, pos, negsuc}
@@ -9,14 +9,18 @@ use lib.ListN.{length}
 use mir.Syntax.{w32}
 use mir.Val.{SFits}
 use Rattle.text.specs.Ascii.{ascii}
+use Rattle.text.specs.Decimal.{decimal}
 use Rattle.text.specs.Over.{over}
 use Rattle.text.specs.laws.Putting.{Puts, put-none}
 use Rattle.wire.specs.Big.{bits}
 use Rattle.field.specs.declared.Price.{Price}
+use Rattle.field.specs.declared.Form.{Form}
+use Rattle.field.specs.declared.Form.the-variants.{Short, Long}
 use Rattle.field.specs.declared.Field.{Field}
 use Rattle.field.specs.declared.Field.the-variants as F
 use Rattle.dollars.specs.Dollars.{amount, signOf, priceText}
 use Rattle.line_reader.specs.Lines.{sideText}
+use Rattle.line_reader.specs.laws.Pieces.{formText}
 use Rattle.tape.specs.Tape.{lineText}
 
 -- ---- a price by its bits
@@ -31,7 +35,7 @@ unfolding signOf
 written-down (pos n) b f e h = absurd (omega (arith, f .sfits))
 written-down (negsuc n) b f e h = let z : 4294967295 - b + 1 ≡ suc n = omega (arith, f .sfits) in ap (λ (v : ℕ). 45 ∷ amount v) z
 
--- ---- a side, and a line, as the code takes them apart
+-- ---- a side, a form, and a line, as the code takes them apart
 
 pub side-there : (present : Bool) (p : Price) → present ≡ true → priceText (p .cents) ≡ sideText present p
 unfolding sideText
@@ -40,6 +44,12 @@ side-there present p e = simp e
 pub side-absent : (present : Bool) (p : Price) → present ≡ false → ascii "-" ≡ sideText present p
 unfolding sideText
 side-absent present p e = simp e
+
+pub form-none : {b : List ℕ} {at : ℕ} {form : Form} → form ≡ Short → Puts b at (formText form) at b
+form-none {b} {at} e h = rw e (let w = put-none b at (rw e at h) in record { next = w .0; bytes = w .1 })
+
+pub form-third : {form : Form} {third : ℕ} → form ≡ Long third → ascii "," ++ decimal third ≡ formText form
+form-third e = rw e refl
 
 pub line-put : {b b′ : List ℕ} {at r : ℕ} (f : Field) {g : Field} → g ≡ f → at + length (lineText g) ≤ length b → Puts b at (lineText f) r b′ → (r ≡ at + length (lineText g)) × (b′ ≡ over b at (lineText g))
 line-put {b} {b′} {at} {r} f {g} e h p =

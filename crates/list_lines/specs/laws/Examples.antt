@@ -3,15 +3,16 @@ use mathlib.Core.Path.{_≡_, refl}
 use mathlib.Core.List.{[], _∷_}
 use Rattle.text.specs.Ascii.{ascii}
 use Rattle.text.specs.Decimal.{decimalIn}
+use Rattle.field.specs.declared.Form.the-variants.{Short}
 use Rattle.sheet.specs.declared.Day.{Day}
 use Rattle.price_rules.specs.declared.Method.the-variants.{Vwap, Twap}
 use Rattle.price_rules.specs.Closing.{close, refused, six, none-priced}
 use Rattle.names.specs.Names.{metalName, contractName}
 use Rattle.list_lines.specs.Listing.{listText, answerLine, answerLines}
 
--- its header: metal 1, no mark; 11 fields with the end
+-- its header: short, metal 1, no mark; 11 fields with the end
 abbrev nickel : Day
-nickel = record { metal = 1; marks = 0; fields = 11 }
+nickel = record { metal = 1; marks = 0; form = Short; fields = 11 }
 
 -- its answers as they are printed
 pub nickel-list :

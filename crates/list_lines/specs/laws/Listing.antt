@@ -11,6 +11,7 @@ use Rattle.text.specs.laws.Decimal.{decimal-length}
 use Rattle.price_rules.specs.declared.Closed.{Closed}
 use Rattle.price_rules.specs.declared.Closed.the-variants as C
 use Rattle.field.specs.declared.Field.{Field}
+use Rattle.field.specs.Judging.{thirdOf}
 use Rattle.sheet.specs.declared.Day.{Day}
 use Rattle.sheet.specs.Fields.{fieldsOf}
 use Rattle.sheet.specs.Judgement.{Verdict, accepts, refuses-at, judgeSheet}
@@ -68,7 +69,7 @@ list-length (C.Refused number at) = one-length number at
 answers-length : (fs : List Field) (v : Verdict) → length (listText (answersBy fs v)) ≤ 512
 unfolding closingsOf
 answers-length fs (accepts day) =
-    let told = answerOf (figuresOf (day .metal) (day .marks) fs) in
+    let told = answerOf (figuresOf (day .metal) (day .marks) (thirdOf (day .form)) fs) in
     six-length day (told 0) (told 1) (told 2) (told 3) (told 4) (told 5)
 answers-length fs (refuses-at number at) = one-length number at
 

@@ -2,17 +2,17 @@
 -- Assumes nothing.
 use Prim.Native.Nat.{ℕ, zero, suc, _+_, _-_, _/_, _%_, _^_, _≤_, _<_}
 use mathlib.Core.Path.{_≡_, refl, sym, ap, _∙_}
-use mathlib.Core.Bool.{Bool, true, false, cond}
-use mathlib.Core.List.{[]}
+use mathlib.Core.Bool.{Bool, true, false, _||_, cond}
+use mathlib.Core.List.{List, [], _∷_}
 use native.Mathlib.Nat.{div-eq-of-lt, pow-le-pow-right, lt-of-lt-of-le}
 use native.Mathlib.Decide.{decLt}
 use native.Mathlib.Omega.{arith}
-use borrow.Author.Tests.{le-leb, lt-leb, lt-ltb, le-ltb, leb-true, ltb-true}
+use borrow.Author.Tests.{le-leb, lt-leb, lt-ltb, le-ltb, leb-true, ltb-true, eq-eqb, ne-eqb}
 use lib.Dec.{leb, ltb, eqb}
 use lib.ListN.{getD, List·getD-eq-default}
 use Rattle.market.specs.declared.Metal.{Metal}
 use Rattle.market.specs.declared.Leg.the-variants.{Outright}
-use Rattle.market.specs.Market.{metals, metalBy, metalOf, contracts, contractBy, contractOf, instruments, rowLeg, legOf, startOf, windowLength, inWindow, marked}
+use Rattle.market.specs.Market.{metals, metalBy, metalOf, contracts, contractBy, contractOf, instruments, rowLeg, legOf, startOf, windowLength, inWindow, marked, namedBy, barredBy, isIn, named, barred}
 
 -- the number itself, for a proof that asks for it
 pub window-length : windowLength ≡ 300000
@@ -84,3 +84,45 @@ pub marked-above : (marks i : ℕ) → marks < 65536 → 16 < i → marked marks
 marked-above marks i m h =
     let small : marks < 2 ^ (i - 1) = lt-of-lt-of-le m (pow-le-pow-right {n = 2} (omega arith) {i = 16} {j = i - 1} (omega arith)) in
     marked-at marks i (λ e. omega arith) ∙ simp (div-eq-of-lt small)
+
+-- ---- a number in a row, as the code compares
+
+pub in-first : {n a : ℕ} (l : List ℕ) → n ≡ a → true ≡ isIn n (a ∷ l)
+unfolding isIn
+in-first {n} {a} l e = simp (eq-eqb n a e)
+
+pub in-rest : {n a : ℕ} (l : List ℕ) {t : Bool} → (n ≡ a → ⊥) → t ≡ isIn n l → t ≡ isIn n (a ∷ l)
+unfolding isIn
+in-rest {n} {a} l h e = e ∙ simp (ne-eqb n a h)
+
+pub in-one : (n a : ℕ) → eqb n a ≡ isIn n (a ∷ [])
+unfolding isIn
+in-one n a = by-test (eqb n a)
+  where
+    by-test : (t : Bool) → t ≡ (t || false)
+    by-test true = refl
+    by-test false = refl
+
+-- ---- the tables by the third value, which have no row but for 1 and 2
+
+pub named-by : (third contract : ℕ) {t : Bool} → t ≡ isIn contract (getD namedBy third []) → t ≡ named third contract
+unfolding named
+named-by third contract e = e
+
+pub barred-by : (third instrument : ℕ) {t : Bool} → t ≡ isIn instrument (getD barredBy third []) → t ≡ barred third instrument
+unfolding barred
+barred-by third instrument e = e
+
+no-row : (a b : List ℕ) (third : ℕ) → (third ≡ 1 → ⊥) → (third ≡ 2 → ⊥) → getD ([] ∷ a ∷ b ∷ []) third [] ≡ []
+no-row a b zero one two = refl
+no-row a b (suc zero) one two = absurd (one refl)
+no-row a b (suc (suc zero)) one two = absurd (two refl)
+no-row a b (suc (suc (suc n))) one two = refl
+
+pub named-none : (third contract : ℕ) → (third ≡ 1 → ⊥) → (third ≡ 2 → ⊥) → false ≡ named third contract
+unfolding isIn
+named-none third contract one two = named-by third contract (sym (ap (isIn contract) (no-row _ _ third one two)))
+
+pub barred-none : (third instrument : ℕ) → (third ≡ 1 → ⊥) → (third ≡ 2 → ⊥) → false ≡ barred third instrument
+unfolding isIn
+barred-none third instrument one two = barred-by third instrument (sym (ap (isIn instrument) (no-row _ _ third one two)))

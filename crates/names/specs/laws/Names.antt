@@ -8,7 +8,7 @@ use lib.Dec.{T, leb, leb→le}
 use lib.ListN.{getD, List·getD-eq-default, length, take, drop, replicate}
 use lib.Seq.{take-length, take-append-seam}
 use Rattle.market.specs.laws.Table.{both, both-left, both-right, from-one}
-use Rattle.field.specs.Judging.{headerRight}
+use Rattle.field.specs.Judging.{thirdOf, headerRight}
 use Rattle.field.specs.laws.Sound.{metal-range}
 use Rattle.sheet.specs.declared.Day.{Day}
 use Rattle.sheet.specs.Judgement.{accepts, judgeSheet}
@@ -88,11 +88,11 @@ method-length Twap = omega arith
 
 -- ---- every metal that is admitted has a name, so that no list stands under an empty line
 
-pub named : (m marks : ℕ) → headerRight m marks ≡ true → 1 ≤ length (metalName m)
+pub named : (m marks third : ℕ) → headerRight m marks third ≡ true → 1 ≤ length (metalName m)
 unfolding metalName
-named m marks e =
-    let range = metal-range m marks e in
+named m marks third e =
+    let range = metal-range m marks third e in
     leb→le 1 (length (metalName m)) (from-one (λ m. leb 1 (length (metalName m))) 5 m tt (range .0) (omega (arith, range .1)))
 
 pub accepted-named : (s : List ℕ) (day : Day) → judgeSheet s ≡ accepts day → 1 ≤ length (metalName (day .metal))
-accepted-named s day a = named (day .metal) (day .marks) (accepted-right s day a)
+accepted-named s day a = named (day .metal) (day .marks) (thirdOf (day .form)) (accepted-right s day a)

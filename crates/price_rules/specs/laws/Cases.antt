@@ -1,15 +1,16 @@
--- The worked examples P1 to P12 of CASES as one table, under the definitions that price a sheet.
+-- The worked examples P1 to P15 of CASES as one table, under the definitions that price a sheet.
 --     Case, Holds    a row of the table, and what it is for it to hold
 --     cases          the table;  cases-hold    every row of it holds
 -- Assumes nothing.
 use Prim.Native.Nat.{ℕ, _*_}
 use mathlib.Core.Path.{_≡_, refl, ap, _∙_}
+use mathlib.Core.Bool.{Bool, true, false}
 use mathlib.Core.List.{List, [], _∷_}
 use lib.Dec.{lit≤}
 use lib.IntN.{ℤ, pos, negℤ}
 use Rattle.field.specs.declared.Field.{Field}
 use Rattle.field.specs.declared.Field.the-variants.{PreviousClose, Trade}
-use Rattle.market.specs.Market.{M3, M2, M4, M1, Cash, metalOf, contractOf, legOf, stepOf, startOf, inWindow, marked}
+use Rattle.market.specs.Market.{M3, M2, M4, M1, Cash, isIn, named, metalOf, contractOf, legOf, stepOf, startOf, inWindow, marked}
 use Rattle.market.specs.laws.Rows.{window-length}
 use Rattle.cents.specs.Round.{round}
 use Rattle.price_rules.specs.declared.Method.the-variants.{Vwap, Twap}
@@ -18,19 +19,21 @@ use Rattle.indicator.specs.Indicator.{empty, taken, afterFrom, sumFrom, centsAt
 use Rattle.indicator.specs.laws.Indicator.{reached-none, reached-more, reached-sum}
 use Rattle.indicator.specs.laws.Examples.{p4, p4-reference}
 use Rattle.indicator.specs.laws.Examples as m1
-use Rattle.twap.specs.Span.{sum, spanOf}
+use Rattle.twap.specs.Span.{missing, sum, spanOf}
 use Rattle.trades.specs.Trades.{Deal, counts, tradeIn, tradesIn, lotsIn}
-use Rattle.price_rules.specs.Closing.{Told, close, rowAnswer, figuresOf, vwapLots, vwapSum, dealsSum, impliedBy}
+use Rattle.price_rules.specs.Closing.{Told, close, refused, rowAnswer, Known, answerBy, figuresOf, vwapLots, vwapSum, dealsSum, impliedBy}
 
--- a contract's answer by its row, from fields of a metal with no marks, with the closes before it in pricing order; a rounded number; the trades
--- of an instrument that count
+-- a contract's answer by its row, from fields of a metal with no marks and the third value 0, with the closes before it in pricing order; a rounded
+-- number; the trades of an instrument that count; the step of a contract of a Copper sheet without records, by its third value and what is known
 pub data Case : Type 0 where
   priced : ℕ → List Field → List ℕ → ℕ → Told → Case
+  stepped : ℕ → Known → ℕ → Told → Case
   rounds : ℤ → ℕ → ℕ → ℤ → Case
   counting : ℕ → ℕ → List Field → List Deal → Case
 
 abbrev pub Holds : Case → Type 0
-Holds (priced metal fs closes c answer) = rowAnswer (figuresOf metal 0 fs) closes c ≡ answer
+Holds (priced metal fs closes c answer) = rowAnswer (figuresOf metal 0 0 fs) closes c ≡ answer
+Holds (stepped third k c answer) = answerBy (figuresOf 4 0 third []) k c ≡ answer
 Holds (rounds n d u m) = round n d u ≡ m
 Holds (counting metal i fs deals) = tradesIn metal i fs ≡ deals
 
@@ -71,6 +74,10 @@ forCash = PreviousClose 11 (record { cents = pos 50 }) ∷ []
 abbrev nickelAt : ℕ → List Field
 nickelAt time = Trade time 1 (record { cents = negℤ (pos 500) }) 4 ∷ []
 
+-- 3M at 7,003.00 by 7 lots, and whether a contract behind it was refused
+abbrev behindThree : Bool → Known
+behindThree stopped = record { closes = 700300 ∷ 0 ∷ 0 ∷ 0 ∷ 0 ∷ 0 ∷ []; stopped = stopped; three = close Vwap 700300 7 }
+
 abbrev pub cases : List Case
 cases =
     priced 4 forM3 (920100 ∷ []) M3 (close Vwap 920560 375) ∷  -- P1
@@ -85,6 +92,9 @@ cases =
     priced 4 fourLots (1000 ∷ 1000 ∷ []) M2 (close Twap 1010 4) ∷  -- P10
     counting 1 1 (nickelAt 58499999) (record { price = negℤ (pos 500); lots = 4 } ∷ []) ∷  -- P11
     counting 1 1 (nickelAt 58500000) [] ∷  -- P12
+    stepped 1 (behindThree false) M3 (close Vwap 700300 7) ∷  -- P13
+    stepped 2 (behindThree true) M4 (refused 15 0) ∷  -- P14
+    stepped 1 (behindThree false) M4 (refused 13 0) ∷  -- P15
     []
 
 -- ---- the sums of the three that go by TWAP: by laws of the sum, and not millisecond by millisecond
@@ -121,8 +131,13 @@ four-span : spanOf 3 60000000 fourLots ≡ sum (pos (300000 * 10))
 unfolding spanOf taken afterFrom
 four-span = ap sum four-sum
 
+-- without records there is none
+none-span : spanOf 5 60000000 [] ≡ missing
+unfolding spanOf afterFrom
+none-span = refl
+
 pub cases-hold : AllHold cases
-unfolding figuresOf rowAnswer stepOf contractOf vwapLots vwapSum tradesIn tradeIn counts inWindow startOf metalOf lotsIn dealsSum impliedBy legOf marked closeOf round
+unfolding figuresOf rowAnswer stepOf contractOf vwapLots vwapSum tradesIn tradeIn counts inWindow startOf metalOf lotsIn dealsSum impliedBy legOf marked named isIn closeOf round
 cases-hold = (
   simp window-length,
   (
@@ -147,7 +162,16 @@ cases-hold = (
                       simp window-length,
                       (
                         simp window-length,
-                        tt,
+                        (
+                          refl,
+                          (
+                            refl,
+                            (
+                              simp none-span,
+                              tt,
+                            ),
+                          ),
+                        ),
                       ),
                     ),
                   ),

@@ -20,9 +20,12 @@ quote-of-requires : tie.Need-quote-of-requires
 quote-of-requires c κs = c .before .before .pre .1 ∙ ap lengthOf (c .match .keys4)
 
 end-of-requires : tie.Need-end-of-requires
-end-of-requires c κs =
+end-of-requires c κs = c .before .before .pre .1 ∙ ap lengthOf (c .match .keys5)
+
+long-header-of-requires : tie.Need-long-header-of-requires
+long-header-of-requires c κs =
     let start = c .before .before in
-    let last : start .args .tag ≡ 5 = omega (arith, within-true 1 5 (start .args .tag) (start .pre .0), c .match .rest .1, c .match .rest .0 .1, c .match .rest .0 .0 .1, c .match .rest .0 .0 .0 .1) in
+    let last : start .args .tag ≡ 6 = omega (arith, within-true 1 6 (start .args .tag) (start .pre .0), c .match .rest .1, c .match .rest .0 .1, c .match .rest .0 .0 .1, c .match .rest .0 .0 .0 .1, c .match .rest .0 .0 .0 .0 .1) in
     start .pre .1 ∙ ap lengthOf last
 
 returns : tie.Need-returns
@@ -43,9 +46,13 @@ returns-4 c = simp (c .quote-of .ensures, c .before .match .keys4)
 
 returns-5 : tie.Need-returns-5
 unfolding fieldOf
-returns-5 c =
+returns-5 c = simp (c .end-of .ensures, c .before .match .keys5)
+
+returns-6 : tie.Need-returns-6
+unfolding fieldOf
+returns-6 c =
     let other = c .before .match .rest in
-    simp (c .end-of .ensures, ne-eqb _ 4 (other .1), ne-eqb _ 3 (other .0 .1), ne-eqb _ 2 (other .0 .0 .1), ne-eqb _ 1 (other .0 .0 .0 .1))
+    simp (c .long-header-of .ensures, ne-eqb _ 5 (other .1), ne-eqb _ 4 (other .0 .1), ne-eqb _ 3 (other .0 .0 .1), ne-eqb _ 2 (other .0 .0 .0 .1), ne-eqb _ 1 (other .0 .0 .0 .0 .1))
 
 pub field-of-spec : {M : Type 1} → statement M
 field-of-spec =
@@ -56,8 +63,10 @@ field-of-spec =
     trade-of-requires
     quote-of-requires
     end-of-requires
+    long-header-of-requires
     returns
     returns-2
     returns-3
     returns-4
-    returns-5)
+    returns-5
+    returns-6)

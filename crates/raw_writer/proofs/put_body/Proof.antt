@@ -1,6 +1,6 @@
 -- `raw_writer::put_body` meets its contract: in each arm the field is known. Assumes nothing.
 use Rattle.field.specs.Layout.{tagOf, bodyBytes}
-use Rattle.raw_writer.proofs.Parts.{room-known, put-known}
+use Rattle.raw_writer.proofs.Parts.{form-room, room-known, put-known}
 use borrow.Author.Needs.{needs}
 use Rattle.raw_writer.proofs.put_body.Statement.{statement}
 use Rattle.raw_writer.proofs.put_body.Tie as tie
@@ -10,7 +10,7 @@ enum-known-field c = search needs
 
 put-header-requires : tie.Need-put-header-requires
 unfolding tagOf
-put-header-requires c κs = let took = c .before .before in room-known _ (took .field .given .1) (took .before .before .before .pre)
+put-header-requires c κs = let took = c .before .before in rw form-room at (room-known _ (took .field .given .1) (took .before .before .before .pre))
 
 enum-known-field-2 : tie.Need-enum-known-field-2
 enum-known-field-2 c = search needs

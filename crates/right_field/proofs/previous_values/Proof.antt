@@ -4,6 +4,9 @@ use borrow.Author.Needs.{needs}
 use Rattle.right_field.proofs.previous_values.Statement.{statement}
 use Rattle.right_field.proofs.previous_values.Tie as tie
 
+by-itself-requires : tie.Need-by-itself-requires
+by-itself-requires c κs = search needs
+
 shared-slice-read-judge-previous : tie.Need-shared-slice-read-judge-previous
 shared-slice-read-judge-previous c = search needs
 
@@ -20,4 +23,4 @@ returns c = search (values-as, needs)
 pub previous-values-spec : {M : Type 1} → statement M
 previous-values-spec =
     tie.close
-    (tie.spec shared-slice-read-judge-previous price-at-requires judge-previous-requires returns)
+    (tie.spec by-itself-requires shared-slice-read-judge-previous price-at-requires judge-previous-requires returns)

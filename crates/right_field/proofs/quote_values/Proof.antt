@@ -22,6 +22,9 @@ both-sides-right-requires c κs = search needs
 returns : tie.Need-returns
 returns c = search (quote-values, needs)
 
+by-itself-requires : tie.Need-by-itself-requires
+by-itself-requires c κs = search needs
+
 judge-quote-requires : tie.Need-judge-quote-requires
 judge-quote-requires c κs = search needs
 
@@ -39,5 +42,6 @@ quote-values-spec =
     price-at-requires-2
     both-sides-right-requires
     returns
+    by-itself-requires
     judge-quote-requires
     returns-2)

@@ -16,6 +16,9 @@ shared-slice-read-join2-2 c = search needs
 join2-requires : tie.Need-join2-requires
 join2-requires c κs = search needs
 
+by-itself-requires : tie.Need-by-itself-requires
+by-itself-requires c κs = search needs
+
 shared-slice-read-judge-trade : tie.Need-shared-slice-read-judge-trade
 shared-slice-read-judge-trade c = search needs
 
@@ -34,6 +37,7 @@ trade-values-spec =
     shared-slice-read-join2
     shared-slice-read-join2-2
     join2-requires
+    by-itself-requires
     shared-slice-read-judge-trade
     judge-trade-requires
     returns)

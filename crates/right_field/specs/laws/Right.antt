@@ -1,8 +1,8 @@
--- A right field of a tag at a place, its time put aside, and what follows: the field that stands there, and that it earns no number once its time is
--- in the day and not below the least.
+-- A right field of a tag at a place, judged by itself and its time put aside, and what follows: the field that stands there, and that it earns no
+-- number once its instrument is not barred, and its time in the day and not below the least.
 --     rightAt       the head stands there, and the values but the time earn no number
 --     Right, right  what is known where it holds
---     timed         with a right time they earn none at all
+--     timed         with an instrument that is let be and a right time they earn none at all
 -- Assumes nothing.
 use Prim.Native.Nat.{ℕ, _+_, _-_, _≤_}
 use mathlib.Core.Path.{_≡_, sym, _∙_}
@@ -12,9 +12,10 @@ use borrow.Author.Tests.{eqb-true}
 use lib.Dec.{eqb}
 use lib.ListN.{getD, take, drop}
 use Rattle.field.specs.declared.Price.{Price}
+use Rattle.field.specs.declared.Before.{Before}
 use Rattle.field.specs.declared.Field.{Field}
 use Rattle.field.specs.declared.Field.the-variants.{Header, PreviousClose, Trade, Quote, End}
-use Rattle.field.specs.Judging.{fine, both, judge}
+use Rattle.field.specs.Judging.{fine, both, allowed, alone, judge}
 use Rattle.field.specs.Layout.{tagRight, sizeOf, priceAt, quoteOf, fieldOf}
 use Rattle.field.specs.laws.Field.{part-is, both-true}
 use Rattle.field.specs.laws.Sound.{Sound, sound, judge-sound}
@@ -23,14 +24,14 @@ use Rattle.field.specs.laws.Standing.{stands, Stood, stood, fieldAt}
 
 -- a field with its time put aside
 unfoldable pub untimed : Field → Field
-untimed (Header metal marks) = Header metal marks
+untimed (Header metal marks form) = Header metal marks form
 untimed (PreviousClose instrument price) = PreviousClose instrument price
 untimed (Trade time instrument price lots) = Trade 0 instrument price lots
 untimed (Quote time instrument sides bid offer) = Quote 0 instrument sides bid offer
 untimed (End count) = End count
 
 abbrev pub valuesRight : Field → Bool
-valuesRight f = eqb (judge 0 (untimed f)) fine
+valuesRight f = eqb (judge alone (untimed f)) fine
 
 abbrev pub rightAt : List ℕ → ℕ → ℕ → Bool
 rightAt s at tag = both (stands s at tag) (valuesRight (fieldAt s at tag))
@@ -48,8 +49,8 @@ unfolding both
 right-by s at tag e h v = v ∙ rw (part-is s at tag, sym e ∙ h)
 
 -- the number of values that were read one by one
-pub values-as : (g : Field) {n : ℕ} {f : Field} → n ≡ judge 0 f → f ≡ untimed g → eqb n fine ≡ valuesRight g
-values-as g e same = rw (e, same)
+pub values-as : (g : Field) {n : ℕ} {b : Before} {f : Field} → b ≡ alone → n ≡ judge b f → f ≡ untimed g → eqb n fine ≡ valuesRight g
+values-as g none e same = rw (e, none, same)
 
 pub quote-values : (b : List ℕ) {r : Bool} {bid offer : Price} → r ≡ bothSidesRight (getD b 4 0) bid offer → getD b 5 0 ≡ 3 → bid ≡ priceAt b 6 → offer ≡ priceAt b 10 → r ≡ valuesRight (quoteOf b)
 unfolding untimed
@@ -59,7 +60,7 @@ quote-values b {r} {bid} {offer} e three low high = e ∙ both-sides (getD b 4 0
 
 pub record Right (s : List ℕ) (at tag : ℕ) : Type 0 where
   pub stands-there : Stood s at tag
-  pub values : judge 0 (untimed (fieldAt s at tag)) ≡ fine
+  pub values : judge alone (untimed (fieldAt s at tag)) ≡ fine
 
 pub right : (s : List ℕ) (at tag : ℕ) → tagRight tag ≡ true → rightAt s at tag ≡ true → Right s at tag
 right s at tag t e =
@@ -67,22 +68,26 @@ right s at tag t e =
     record { stands-there = stood s at tag t (u .0); values = eqb-true _ fine (u .1) }
 
 -- the time of a record in the day, and not below the least
-abbrev pub Timely : ℕ → Field → Type 0
-Timely least (Header metal marks) = Unit {0}
-Timely least (PreviousClose instrument price) = Unit {0}
-Timely least (Trade time instrument price lots) = (least ≤ time) × (time ≤ 86399999)
-Timely least (Quote time instrument sides bid offer) = (least ≤ time) × (time ≤ 86399999)
-Timely least (End count) = Unit {0}
+abbrev pub InTime : Before → ℕ → Type 0
+InTime before time = (before .time ≤ time) × (time ≤ 86399999)
 
-sound-timed : (least : ℕ) (f : Field) → Sound 0 (untimed f) → Timely least f → Sound least f
+-- what came before lets the field's instrument be, and its time is right
+abbrev pub Timely : Before → Field → Type 0
+Timely before (Header metal marks form) = Unit {0}
+Timely before (PreviousClose instrument price) = allowed (before .third) instrument ≡ true
+Timely before (Trade time instrument price lots) = (allowed (before .third) instrument ≡ true) × InTime before time
+Timely before (Quote time instrument sides bid offer) = (allowed (before .third) instrument ≡ true) × InTime before time
+Timely before (End count) = Unit {0}
+
+sound-timed : (before : Before) (f : Field) → Sound alone (untimed f) → Timely before f → Sound before f
 unfolding untimed
-sound-timed least (Header metal marks) h t = h
-sound-timed least (PreviousClose instrument price) h t = h
-sound-timed least (Trade time instrument price lots) h t =
-    record { stamp = record { instrument-in = h .stamp .instrument-in; in-day = t .1; not-before = t .0 }; price-in = h .price-in; some = h .some; most = h .most }
-sound-timed least (Quote time instrument sides bid offer) h t =
-    record { stamp = record { instrument-in = h .stamp .instrument-in; in-day = t .1; not-before = t .0 }; sides-in = h .sides-in; prices-in = h .prices-in; in-order = h .in-order }
-sound-timed least (End count) h t = tt
+sound-timed before (Header metal marks form) h t = h
+sound-timed before (PreviousClose instrument price) h t = (record { in-table = h .0 .in-table; let-be = t }, h .1)
+sound-timed before (Trade time instrument price lots) h t =
+    record { stamp = record { on = record { in-table = h .stamp .on .in-table; let-be = t .0 }; in-day = t .1 .1; not-before = t .1 .0 }; price-in = h .price-in; some = h .some; most = h .most }
+sound-timed before (Quote time instrument sides bid offer) h t =
+    record { stamp = record { on = record { in-table = h .stamp .on .in-table; let-be = t .0 }; in-day = t .1 .1; not-before = t .1 .0 }; sides-in = h .sides-in; prices-in = h .prices-in; in-order = h .in-order }
+sound-timed before (End count) h t = tt
 
-pub timed : (least : ℕ) (f : Field) → judge 0 (untimed f) ≡ fine → Timely least f → judge least f ≡ fine
-timed least f e t = judge-sound least f (sound-timed least f (sound 0 (untimed f) e) t)
+pub timed : (before : Before) (f : Field) → judge alone (untimed f) ≡ fine → Timely before f → judge before f ≡ fine
+timed before f e t = judge-sound before f (sound-timed before f (sound alone (untimed f) e) t)

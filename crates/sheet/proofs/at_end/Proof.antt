@@ -5,8 +5,8 @@ use borrow.Author.Needs.{needs}
 use Rattle.sheet.proofs.at_end.Statement.{statement}
 use Rattle.sheet.proofs.at_end.Tie as tie
 
-add-t5 : tie.Need-add-t5
-add-t5 c = search needs
+add-t6 : tie.Need-add-t6
+add-t6 c = search needs
 
 returns : tie.Need-returns
 unfolding atEnd
@@ -17,4 +17,4 @@ unfolding atEnd
 returns-2 c = simp (ne-eqb _ _ (c .if1 .left))
 
 pub at-end-spec : {M : Type 1} → statement M
-at-end-spec = tie.close (tie.spec add-t5 returns returns-2)
+at-end-spec = tie.close (tie.spec add-t6 returns returns-2)

@@ -26,8 +26,8 @@ add-instrument c = omega (arith, right-whole _ _ 2 (c .before .right-previous .e
 shared-slice-read-instrument : tie.Need-shared-slice-read-instrument Inv-loop μ-loop
 shared-slice-read-instrument c = omega (arith, right-whole _ _ 2 (c .before .before .right-previous .ensures) (c .before .if1 .taken))
 
-previous-placed-requires : tie.Need-previous-placed-requires Inv-loop μ-loop
-previous-placed-requires c κs = search closing
+close-next-requires : tie.Need-close-next-requires Inv-loop μ-loop
+close-next-requires c κs = search closing
 
 after-previous-requires : tie.Need-after-previous-requires Inv-loop μ-loop
 after-previous-requires c κs = search closing
@@ -57,7 +57,7 @@ past-closes-spec =
     right-previous-requires
     add-instrument
     shared-slice-read-instrument
-    previous-placed-requires
+    close-next-requires
     after-previous-requires
     add-at
     loop-less

@@ -3,7 +3,7 @@
 --     accepted-chain    the chain;  accepted-stood    its fields fill the sheet;  accepted-small    at most 1,048,576 bytes
 --     accepted-rises    times never fall;  accepted-sound    every value is in its range
 --     accepted-header   exactly one header, first;  accepted-right    its metal and marks are right;  accepted-closes    previous closes strictly rising, before all records
---     accepted-end      exactly one end, last, with the right count
+--     accepted-let      no field is on a barred instrument;  accepted-end    exactly one end, last, with the right count
 -- Assumes nothing.
 use Prim.Native.Nat.{ℕ, _+_, _≤_}
 use mathlib.Core.Path.{_≡_, refl, sym, _∙_, ap, subst}
@@ -17,14 +17,15 @@ use lib.ListN.{length}
 use Rattle.field.specs.declared.Field.{Field}
 use Rattle.field.specs.Said.{gives, refuses}
 use Rattle.field.specs.declared.Field.the-variants.{Header, PreviousClose, Trade, Quote, End}
-use Rattle.field.specs.Judging.{headerRight}
+use Rattle.field.specs.Judging.{headerRight, thirdOf, allowed, alone}
 use Rattle.field.specs.Layout.{tagOf}
-use Rattle.field.specs.laws.Sound.{Sound}
+use Rattle.field.specs.declared.Before.{Before}
+use Rattle.field.specs.laws.Sound.{Sound, sound}
 use Rattle.field.specs.Reading.{shapeAt}
 use Rattle.field.specs.laws.Field.{clash}
 use Rattle.admit.specs.declared.Progress.{Progress}
-use Rattle.admit.specs.Admitting.{start, Step, goes, ends, stops, admit}
-use Rattle.admit.specs.laws.Admitting.{went, ended, timeFrom, went-times, went-counts, passed-times, passed-sound, first-header, later-not-header, kept, header-kept, close-kept, record-kept, end-is, close-placed, late-not-close, late-stays}
+use Rattle.admit.specs.Admitting.{start, beforeOf, Step, goes, ends, stops, admit}
+use Rattle.admit.specs.laws.Admitting.{Passed, went, ended, timeFrom, went-times, went-counts, passed-times, passed-sound, first-header, Later, later-not-header, kept, header-kept, close-kept, record-kept, end-is, close-placed, late-not-close, late-stays}
 use Rattle.sheet.specs.declared.Day.{Day}
 use Rattle.sheet.specs.Fields.{readsAt, fieldsAt, fieldsOf, Each}
 use Rattle.sheet.specs.Judgement.{Verdict, accepts, refuses-at, dayOf, atEnd, after, judgeReads, judgeSheet}
@@ -100,11 +101,11 @@ accepted-rises s day h = chain-rises (accepted-chain s day h)
 
 -- ---- every value is in its range
 
-pub chain-sound : {p : Progress} {fs : List Field} {day : Day} → Chain p fs day → Each (Sound 0) fs
+pub chain-sound : {p : Progress} {fs : List Field} {day : Day} → Chain p fs day → Each (Sound alone) fs
 chain-sound (last {p = p} {f = f} e) = (passed-sound p f (ended p f e .0), tt)
 chain-sound (more {p = p} {q = q} {f = f} e c) = (passed-sound p f (went p f q e .0), chain-sound c)
 
-pub accepted-sound : (s : List ℕ) (day : Day) → judgeSheet s ≡ accepts day → Each (Sound 0) (fieldsOf s)
+pub accepted-sound : (s : List ℕ) (day : Day) → judgeSheet s ≡ accepts day → Each (Sound alone) (fieldsOf s)
 accepted-sound s day h = chain-sound (accepted-chain s day h)
 
 -- ---- exactly one header, first
@@ -116,39 +117,79 @@ Without tag fs = Each (λ f. tagOf f ≡ tag → ⊥) fs
 -- the first field is a header with these values, and no other is one
 pub record HeaderFirst (fs : List Field) (day : Day) : Type 0 where
   pub rest : List Field
-  pub is : fs ≡ Header (day .metal) (day .marks) ∷ rest
-  pub alone : Without 1 rest
+  pub is : fs ≡ Header (day .metal) (day .marks) (day .form) ∷ rest
+  pub only : Each Later rest
 
--- behind the header none comes, and what it said is what the day tells
-chain-later : {p : Progress} {fs : List Field} {day : Day} → Chain p fs day → 1 ≤ p .stage → Without 1 fs × ((day .metal ≡ p .metal) × (day .marks ≡ p .marks))
-chain-later (last {p = p} {f = f} e) l = ((later-not-header p f (ended p f e .0) l, tt), (refl, refl))
+-- what the header said is what the day tells
+record Said (p : Progress) (day : Day) : Type 0 where
+  metal : day .metal ≡ p .metal
+  marks : day .marks ≡ p .marks
+  form : day .form ≡ p .form
+
+-- behind the header none comes, and what it said stays
+chain-later : {p : Progress} {fs : List Field} {day : Day} → Chain p fs day → 1 ≤ p .stage → Each Later fs × Said p day
+chain-later (last {p = p} {f = f} e) l = ((later-not-header p f (ended p f e .0) l, tt), record { metal = refl; marks = refl; form = refl })
 chain-later (more {p = p} {q = q} {f = f} e c) l =
     let k = kept p f q e in
     let r = chain-later c (k .later) in
-    ((later-not-header p f (went p f q e .0) l, r .0), (r .1 .0 ∙ k .metal-stays l, r .1 .1 ∙ k .marks-stay l))
+    ((later-not-header p f (went p f q e .0) l, r .0), record { metal = r .1 .metal ∙ k .metal-stays l; marks = r .1 .marks ∙ k .marks-stay l; form = r .1 .form ∙ k .form-stays l })
 
 chain-header : {p : Progress} {fs : List Field} {day : Day} → Chain p fs day → p .stage ≡ 0 → HeaderFirst fs day
 chain-header (last {p = p} {f = f} e) z =
     let h = first-header p f (ended p f e .0) z in
-    let no : Header (h .metal) (h .marks) ≡ End (p .count) = sym (h .is) ∙ end-is p f e in
+    let no : Header (h .metal) (h .marks) (h .form) ≡ End (p .count) = sym (h .is) ∙ end-is p f e in
     clash cc
 chain-header (more {p = p} {q = q} {f = f} {fs = fs} {day = day} e c) z =
     let h = first-header p f (went p f q e .0) z in
-    let k = header-kept p (h .metal) (h .marks) q (rw (h .is) at e) in
+    let k = header-kept p (h .metal) (h .marks) (h .form) q (rw (h .is) at e) in
     let r = chain-later c (kept p f q e .later) in
-    let metal : day .metal ≡ h .metal = r .1 .0 ∙ ap (λ (x : Progress). x .metal) k in
-    let marks : day .marks ≡ h .marks = r .1 .1 ∙ ap (λ (x : Progress). x .marks) k in
-    record { rest = fs; is = rw (metal, marks) (ap (λ (g : Field). g ∷ fs) (h .is)); alone = r .0 }
+    let metal : day .metal ≡ h .metal = r .1 .metal ∙ ap (λ (x : Progress). x .metal) k in
+    let marks : day .marks ≡ h .marks = r .1 .marks ∙ ap (λ (x : Progress). x .marks) k in
+    let form : day .form ≡ h .form = r .1 .form ∙ ap (λ (x : Progress). x .form) k in
+    record { rest = fs; is = rw (metal, marks, form) (ap (λ (g : Field). g ∷ fs) (h .is)); only = r .0 }
 
 pub accepted-header : (s : List ℕ) (day : Day) → judgeSheet s ≡ accepts day → HeaderFirst (fieldsOf s) day
 accepted-header s day h = chain-header (accepted-chain s day h) refl
 
 -- and its values are right
-pub accepted-right : (s : List ℕ) (day : Day) → judgeSheet s ≡ accepts day → headerRight (day .metal) (day .marks) ≡ true
+pub accepted-right : (s : List ℕ) (day : Day) → judgeSheet s ≡ accepts day → headerRight (day .metal) (day .marks) (thirdOf (day .form)) ≡ true
 accepted-right s day a =
     let h = accepted-header s day a in
-    let sounds : Each (Sound 0) (Header (day .metal) (day .marks) ∷ h .rest) = rw (h .is) at (accepted-sound s day a) in
+    let sounds : Each (Sound alone) (Header (day .metal) (day .marks) (day .form) ∷ h .rest) = rw (h .is) at (accepted-sound s day a) in
     sounds .0
+
+-- ---- no field is on an instrument that the header bars
+
+abbrev pub Let : ℕ → Field → Type 0
+Let third (Header metal marks form) = Unit {0}
+Let third (PreviousClose instrument price) = allowed third instrument ≡ true
+Let third (Trade time instrument price lots) = allowed third instrument ≡ true
+Let third (Quote time instrument sides bid offer) = allowed third instrument ≡ true
+Let third (End count) = Unit {0}
+
+let-sound : (before : Before) (f : Field) → Sound before f → Let (before .third) f
+let-sound before (Header metal marks form) h = tt
+let-sound before (PreviousClose instrument price) h = h .0 .let-be
+let-sound before (Trade time instrument price lots) h = h .stamp .on .let-be
+let-sound before (Quote time instrument sides bid offer) h = h .stamp .on .let-be
+let-sound before (End count) h = tt
+
+let-passed : (p : Progress) (f : Field) → Passed p f → Let (thirdOf (p .form)) f
+let-passed p f h = let-sound (beforeOf p) f (sound (beforeOf p) f (h .values))
+
+chain-let : {p : Progress} {fs : List Field} {day : Day} → Chain p fs day → 1 ≤ p .stage → Each (Let (thirdOf (day .form))) fs
+chain-let (last {p = p} {f = f} e) l = (let-passed p f (ended p f e .0), tt)
+chain-let (more {p = p} {q = q} {f = f} e c) l =
+    let told = chain-later (more {p = p} {q = q} {f = f} e c) l .1 .form in
+    (rw told (let-passed p f (went p f q e .0)), chain-let c (kept p f q e .later))
+
+-- behind the header, whose own instrument there is none
+chain-all-let : {p : Progress} {fs : List Field} {day : Day} → Chain p fs day → p .stage ≡ 0 → Each (Let (thirdOf (day .form))) fs
+chain-all-let (last {p = p} {f = f} e) z = rw (end-is p f e) (tt, tt)
+chain-all-let (more {p = p} {q = q} {f = f} e c) z = (rw (first-header p f (went p f q e .0) z .is) tt, chain-let c (kept p f q e .later))
+
+pub accepted-let : (s : List ℕ) (day : Day) → judgeSheet s ≡ accepts day → Each (Let (thirdOf (day .form))) (fieldsOf s)
+accepted-let s day h = chain-all-let (accepted-chain s day h) refl
 
 -- ---- exactly one end, last, with the right count
 
@@ -182,7 +223,7 @@ accepted-end s day h = chain-end (accepted-chain s day h)
 -- each instrument is at least the given one, and above that of the close before it; behind a trade or a quote no close comes
 abbrev pub Closes : ℕ → List Field → Type 0
 Closes least [] = Unit {0}
-Closes least (Header metal marks ∷ fs) = Closes least fs
+Closes least (Header metal marks form ∷ fs) = Closes least fs
 Closes least (PreviousClose instrument price ∷ fs) = (least ≤ instrument) × Closes (instrument + 1) fs
 Closes least (Trade time instrument price lots ∷ fs) = Without 2 fs
 Closes least (Quote time instrument sides bid offer ∷ fs) = Without 2 fs
@@ -195,7 +236,7 @@ chain-no-close (more {p = p} {q = q} {f = f} e c) z = (late-not-close p f (went 
 -- one field before a chain of which that holds
 closes-more : (p : Progress) (f : Field) {q : Progress} {fs : List Field} {day : Day} → admit p f ≡ goes q → Chain q fs day → Closes (q .instrument) fs → Closes (p .instrument) (f ∷ fs)
 unfolding tagOf
-closes-more p (Header metal marks) {q} {fs} e c r = subst (λ (n : ℕ). Closes n fs) (ap (λ (x : Progress). x .instrument) (header-kept p metal marks q e)) r
+closes-more p (Header metal marks form) {q} {fs} e c r = subst (λ (n : ℕ). Closes n fs) (ap (λ (x : Progress). x .instrument) (header-kept p metal marks form q e)) r
 closes-more p (PreviousClose instrument price) {q} {fs} e c r =
     (close-placed p instrument price (went p (PreviousClose instrument price) q e .0) .1, subst (λ (n : ℕ). Closes n fs) (ap (λ (x : Progress). x .instrument) (close-kept p instrument price q e)) r)
 closes-more p (Trade time instrument price lots) {q} e c r = chain-no-close c (record-kept p (Trade time instrument price lots) q e (inl refl))

@@ -137,7 +137,7 @@ refused-long s at h = by-cause (earned s 1 at h) refl
         absurd (head-all (λ m. m ≡ 1 → ⊥) (λ g. omega arith) (λ g. omega arith) (λ g. omega arith) (λ g. omega arith) s at _ (shape-refused s at n place d .0 ∙ e))
     by-cause (bad-field {n = n} {at = at} {f = f} small b d k) e =
         let room : b .progress .count < 1048576 = omega (arith, before-counts (b .led) (b .stood), shape-grows s at d) in
-        absurd (admit-all (λ m. m ≡ 1 → ⊥) (λ g. omega arith) (λ g. omega arith) (λ g. omega arith) (λ g. omega arith) (λ g. omega arith) (λ g. omega arith) (λ g. omega arith) (λ g. omega arith) (λ g. omega arith) (b .progress) f room (stopped (b .progress) f n k ∙ e))
+        absurd (admit-all (λ m. m ≡ 1 → ⊥) (λ g. omega arith) (λ g. omega arith) (λ g. omega arith) (λ g. omega arith) (λ g. omega arith) (λ g. omega arith) (λ g. omega arith) (λ g. omega arith) (λ g. omega arith) (λ g. omega arith) (b .progress) f room (stopped (b .progress) f n k ∙ e))
     by-cause (trailing small b d k l) e = absurd (omega arith)
 
 -- a place behind fields that stand in the sheet is in it or at its end

@@ -22,7 +22,7 @@ use Rattle.trips.specs.Held.{Held, Counted}
 use Rattle.trips.specs.laws.Held.{held}
 use Rattle.trips.specs.laws.Stands.{shape-there, shape-stands}
 use Rattle.admit.specs.declared.Progress.{Progress}
-use Rattle.admit.specs.Admitting.{goes, admit}
+use Rattle.admit.specs.Admitting.{beforeOf, goes, admit}
 use Rattle.admit.specs.laws.Admitting.{Passed, went, passed-count}
 use Rattle.sheet.specs.Fields.{readsAt, fieldsAt, encode, Each}
 use Rattle.sheet.specs.Judgement.{after, judgeReads}
@@ -90,14 +90,14 @@ bytes-stood pre (f ∷ fs) rest h =
 -- ---- a field that passed fits its bytes
 
 passed-counted : (p : Progress) (f : Field) → Passed p f → Counted f
-passed-counted p (Header metal marks) h = tt
+passed-counted p (Header metal marks form) h = tt
 passed-counted p (PreviousClose instrument price) h = tt
 passed-counted p (Trade time instrument price lots) h = tt
 passed-counted p (Quote time instrument sides bid offer) h = tt
 passed-counted p (End count) h = omega (arith, passed-count p count h, h .room)
 
 pub passed-held : (p : Progress) (f : Field) → Passed p f → Held f
-passed-held p f h = held (p .time) f (passed-counted p f h) (h .values)
+passed-held p f h = held (beforeOf p) f (passed-counted p f h) (h .values)
 
 pub led-held : {p q : Progress} {fs : List Field} → Led p fs q → Each Held fs
 led-held none = tt

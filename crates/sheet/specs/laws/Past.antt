@@ -1,4 +1,4 @@
--- Laws of going past right fields: a header, then closes, then records, each found by its bytes alone, and then a right end.
+-- Laws of going past right fields behind the header: closes, then records, each found by its bytes alone, and then a right end.
 --     Opened    on the way, behind the header, no record yet
 --     Nearly    on the way as soon as the last time is one of the day: times never fall, so then all before it are
 -- The premises are the facts as they stand in the code. Assumes nothing.
@@ -12,29 +12,44 @@ use lib.Dec.{leb}
 use lib.ListN.{length, getD, take, drop}
 use mir.Syntax.{w64}
 use mir.Val.{Fits}
-use Rattle.wire.specs.Big.{be2At, be4At}
+use Rattle.wire.specs.Big.{be4At}
+use Rattle.field.specs.declared.Before.{Before}
 use Rattle.field.specs.declared.Field.{Field}
-use Rattle.field.specs.Said.{gives}
-use Rattle.field.specs.Judging.{fine, both, judge}
+use Rattle.field.specs.declared.Read.{Read}
+use Rattle.field.specs.declared.Read.the-variants as R
+use Rattle.field.specs.Said.{gives, readSays}
+use Rattle.field.specs.Judging.{fine, both, thirdOf, allowed, judge}
 use Rattle.field.specs.Layout.{lengthOf, sizeOf, fieldOf}
 use Rattle.field.specs.Reading.{bodyAt, shapeAt}
 use Rattle.field.specs.laws.Field.{both-true, unless-passed}
-use Rattle.field.specs.laws.Standing.{stands, stands-whole, Stood, stood, stood-shape, fieldAt, body-number, body-first, body-second}
-use Rattle.right_field.specs.laws.Right.{untimed, rightAt, Right, right, Timely, timed}
+use Rattle.field.specs.laws.Standing.{stands, stands-whole, Stood, stood, stood-shape, fieldAt, body-number, body-first, body-fifth}
+use Rattle.right_field.specs.laws.Right.{rightAt, Right, right, InTime, Timely, timed}
 use Rattle.admit.specs.declared.Progress.{Progress}
-use Rattle.admit.specs.Admitting.{start, previousPlaced, placed, countNumber, afterHeader, afterPrevious, afterRecord, goes, admitted, admit}
-use Rattle.admit.specs.laws.Admitting.{passed-taken}
+use Rattle.admit.specs.declared.Admitted.{Admitted}
+use Rattle.admit.specs.declared.Admitted.the-variants as A
+use Rattle.admit.specs.Admitting.{start, beforeOf, previousPlaced, placed, countNumber, afterPrevious, afterRecord, goes, admitted, admit, admitSays}
+use Rattle.admit.specs.laws.Admitting.{passed-taken, went, first-header, header-kept}
 use Rattle.sheet.specs.Judgement.{Verdict, atEnd, judgeSheet}
 use Rattle.sheet.specs.laws.Walk.{left, shape-grows}
-use Rattle.sheet.specs.laws.Track.{OnTrack, at-start, on-room, on-last, on-next}
+use Rattle.sheet.specs.laws.Track.{OnTrack, at-start, at-next, on-room, on-last, on-next}
 
 -- a field whose values earn no number is taken where it has its place
-takes : (p : Progress) (f : Field) → p .count < 1048576 → judge (p .time) f ≡ fine → placed p f ≡ true → countNumber p f ≡ fine → admit p f ≡ admitted p f
+takes : (p : Progress) (f : Field) → p .count < 1048576 → judge (beforeOf p) f ≡ fine → placed p f ≡ true → countNumber p f ≡ fine → admit p f ≡ admitted p f
 takes p f room values place counted = passed-taken p f (record { room = room; place = place; values = values; counted = counted })
 
 -- the bytes of a right field are in the sheet
 pub right-whole : (s : List ℕ) (at tag : ℕ) {t : Bool} → t ≡ rightAt s at tag → t ≡ true → at + sizeOf tag ≤ length s
 right-whole s at tag e h = stands-whole s at tag refl (both-true (stands s at tag) _ (sym e ∙ h) .0)
+
+-- two tests one after the other, as the code has them
+module _ (a b : Bool) {t : Bool} (e : t ≡ a) where
+  pub both-first : t ≡ true → {u : Bool} → u ≡ b → u ≡ both a b
+  unfolding both
+  both-first h k = k ∙ rw (sym e ∙ h) refl
+
+  pub both-not : t ≡ false → false ≡ both a b
+  unfolding both
+  both-not h = rw (sym e ∙ h) refl
 
 -- ---- a header, and the closes behind it
 
@@ -42,27 +57,14 @@ pub record Opened (s : List ℕ) (at : ℕ) (p : Progress) : Type 0 where
   pub track : OnTrack s at p
   pub first : p .stage ≡ 1
 
-header-goes : (s : List ℕ) → Right s 0 1 → admit start (fieldAt s 0 1) ≡ goes (afterHeader start (getD s 3 0) (be2At s 4))
-unfolding fieldOf untimed placed countNumber admitted
-header-goes s r =
-    takes start (fieldAt s 0 1) (omega arith) (r .values) refl refl
-    ∙ rw (body-first s 0 3 (omega arith), body-second s 0 3 (omega arith))
-
-pub header-inside : (s : List ℕ) {t : Bool} → t ≡ rightAt s 0 1 → t ≡ true → 6 ≤ length s
-header-inside s e h = right-whole s 0 1 e h
-
--- what is kept behind it
-pub header-room : {p : Progress} → p ≡ start → p .count < 1048576
-header-room e = rw e (omega arith)
-
-pub header-kept : (s : List ℕ) {p q : Progress} {marks : ℕ} → p ≡ start → marks ≡ be2At s 4 → q ≡ afterHeader p (getD s 3 0) marks → q ≡ afterHeader start (getD s 3 0) (be2At s 4)
-header-kept s b m k = k ∙ rw (b, m)
-
-pub opened : (s : List ℕ) {t : Bool} {p : Progress} → t ≡ rightAt s 0 1 → t ≡ true → length s ≤ 1048576 → p ≡ afterHeader start (getD s 3 0) (be2At s 4) → Opened s 6 p
-unfolding both
-opened s e h small k =
-    let r = right s 0 1 refl (sym e ∙ h) in
-    rw k (record { track = on-next s 0 start (at-start s refl small) (stood-shape s 0 1 (r .stands-there)) (header-goes s r); first = refl })
+-- the first field is the header
+pub opened : (s : List ℕ) {r : Read} {f : Field} {next : ℕ} {p q : Progress} {t : Admitted} → length s ≤ 1048576 → readSays r ≡ shapeAt s 0 → r ≡ R.Field f next → p ≡ start → admitSays t ≡ admit p f → t ≡ A.Next q → Opened s next q
+opened s {r} {f} {next} {p} {q} small e d b k w =
+    let goes-on : admit p f ≡ goes q = sym k ∙ ap admitSays w in
+    let none : p .stage ≡ 0 = ap (λ (x : Progress). x .stage) b in
+    let h = first-header p f (went p f q goes-on .0) none in
+    let behind = header-kept p (h .metal) (h .marks) (h .form) q (rw (h .is) at goes-on) in
+    record { track = at-next s 0 p (at-start s b small) e d k w; first = ap (λ (x : Progress). x .stage) behind }
 
 module _ (s : List ℕ) (at : ℕ) (p : Progress) (o : Opened s at p) {t : Bool} (e : t ≡ rightAt s at 2) (h : t ≡ true) where
   close-right : Right s at 2
@@ -72,12 +74,15 @@ module _ (s : List ℕ) (at : ℕ) (p : Progress) (o : Opened s at p) {t : Bool}
   pub close-room : p .count < 1048576
   close-room = on-room s at p (o .track) (stood-shape s at 2 (close-right .stands-there))
 
-  module _ {u : Bool} (k : u ≡ previousPlaced p (getD s (at + 3) 0)) (l : u ≡ true) where
+  module _ {u : Bool} (k : u ≡ both (previousPlaced p (getD s (at + 3) 0)) (allowed (thirdOf (p .form)) (getD s (at + 3) 0))) (l : u ≡ true) where
+    close-let : (previousPlaced p (getD s (at + 3) 0) ≡ true) × (allowed (thirdOf (p .form)) (getD s (at + 3) 0) ≡ true)
+    close-let = both-true _ _ (sym k ∙ l)
+
     close-goes : admit p (fieldAt s at 2) ≡ goes (afterPrevious p (getD s (at + 3) 0))
     unfolding fieldOf placed countNumber admitted
     close-goes =
         let same = body-first s at 5 (omega arith) in
-        takes p (fieldAt s at 2) close-room (timed (p .time) (fieldAt s at 2) (close-right .values) tt) (ap (previousPlaced p) same ∙ sym k ∙ l) refl
+        takes p (fieldAt s at 2) close-room (timed (beforeOf p) (fieldAt s at 2) (close-right .values) (ap (allowed (thirdOf (p .form))) same ∙ close-let .1)) (ap (previousPlaced p) same ∙ close-let .0) refl
         ∙ ap (λ (i : ℕ). goes (afterPrevious p i)) same
 
     pub close-next : {q : Progress} → q ≡ afterPrevious p (getD s (at + 3) 0) → Opened s (at + 8) q
@@ -88,41 +93,45 @@ module _ (s : List ℕ) (at : ℕ) (p : Progress) (o : Opened s at p) {t : Bool}
 
 -- ---- records
 
--- what stands there, by its size
-unfoldable pub recordSize : List ℕ → ℕ → ℕ
-recordSize s at = cond (rightAt s at 3) 14 (cond (rightAt s at 4) 17 0)
+-- what stands there, by its size; and where its instrument is let be
+unfoldable pub rightSize : List ℕ → ℕ → ℕ
+rightSize s at = cond (rightAt s at 3) 14 (cond (rightAt s at 4) 17 0)
+
+unfoldable pub recordSize : List ℕ → ℕ → ℕ → ℕ
+recordSize s at third = cond (allowed third (getD s (at + 7) 0)) (rightSize s at) 0
 
 pub record Recorded (s : List ℕ) (at size : ℕ) : Type 0 where
   pub field : Field
   pub shape : shapeAt s at ≡ gives field (at + size)
-  pub next : (p : Progress) → p .time ≤ be4At s (at + 3) → be4At s (at + 3) ≤ 86399999 → 1 ≤ p .stage → p .count < 1048576 → admit p field ≡ goes (afterRecord p (be4At s (at + 3)))
+  pub next : (p : Progress) → allowed (thirdOf (p .form)) (getD s (at + 7) 0) ≡ true → p .time ≤ be4At s (at + 3) → be4At s (at + 3) ≤ 86399999 → 1 ≤ p .stage → p .count < 1048576 → admit p field ≡ goes (afterRecord p (be4At s (at + 3)))
 
 -- of a tag whose field has its place behind the header, counts nothing and begins with its time
-recorded-at : (s : List ℕ) (at tag : ℕ) → Right s at tag → 4 ≤ lengthOf tag
+recorded-at : (s : List ℕ) (at tag : ℕ) → Right s at tag → 5 ≤ lengthOf tag
     → ((p : Progress) → placed p (fieldAt s at tag) ≡ leb 1 (p .stage))
     → ((p : Progress) → countNumber p (fieldAt s at tag) ≡ fine)
     → ((p : Progress) → admitted p (fieldAt s at tag) ≡ goes (afterRecord p (be4At (bodyAt s at tag) 0)))
-    → ((least : ℕ) → least ≤ be4At (bodyAt s at tag) 0 → be4At (bodyAt s at tag) 0 ≤ 86399999 → Timely least (fieldAt s at tag))
+    → ((b : Before) → allowed (b .third) (getD (bodyAt s at tag) 4 0) ≡ true → InTime b (be4At (bodyAt s at tag) 0) → Timely b (fieldAt s at tag))
     → Recorded s at (sizeOf tag)
 recorded-at s at tag r long place none after timely =
     let f = fieldAt s at tag in
-    let same = body-number s at (lengthOf tag) long in
+    let same = body-number s at (lengthOf tag) (omega (arith, long)) in
+    let on = body-fifth s at (lengthOf tag) long in
     record {
       field = f;
       shape = stood-shape s at tag (r .stands-there);
-      next = λ p l d stage room. takes p f room (timed (p .time) f (r .values) (timely (p .time) (rw same l) (rw same d))) (place p ∙ le-leb 1 (p .stage) stage) (none p) ∙ after p ∙ ap (λ (t : ℕ). goes (afterRecord p t)) same;
+      next = λ p a l d stage room. takes p f room (timed (beforeOf p) f (r .values) (timely (beforeOf p) (rw on a) (rw same (l, d)))) (place p ∙ le-leb 1 (p .stage) stage) (none p) ∙ after p ∙ ap (λ (t : ℕ). goes (afterRecord p t)) same;
     }
 
 trade-recorded : (s : List ℕ) (at : ℕ) → Right s at 3 → Recorded s at 14
 unfolding fieldOf placed countNumber admitted
-trade-recorded s at r = recorded-at s at 3 r (omega arith) (λ p. refl) (λ p. refl) (λ p. refl) (λ least l d. (l, d))
+trade-recorded s at r = recorded-at s at 3 r (omega arith) (λ p. refl) (λ p. refl) (λ p. refl) (λ b a t. (a, t))
 
 quote-recorded : (s : List ℕ) (at : ℕ) → Right s at 4 → Recorded s at 17
 unfolding fieldOf placed countNumber admitted
-quote-recorded s at r = recorded-at s at 4 r (omega arith) (λ p. refl) (λ p. refl) (λ p. refl) (λ least l d. (l, d))
+quote-recorded s at r = recorded-at s at 4 r (omega arith) (λ p. refl) (λ p. refl) (λ p. refl) (λ b a t. (a, t))
 
-recorded : (s : List ℕ) (at : ℕ) {size : ℕ} → size ≡ recordSize s at → (size ≡ 0 → ⊥) → Recorded s at size
-unfolding recordSize both
+recorded : (s : List ℕ) (at : ℕ) {size : ℕ} → size ≡ rightSize s at → (size ≡ 0 → ⊥) → Recorded s at size
+unfolding rightSize both
 recorded s at {size} e some = by-test (rightAt s at 3) (rightAt s at 4) refl refl e
   where
     by-test : (t q : Bool) → rightAt s at 3 ≡ t → rightAt s at 4 ≡ q → size ≡ cond t 14 (cond q 17 0) → Recorded s at size
@@ -132,18 +141,58 @@ recorded s at {size} e some = by-test (rightAt s at 3) (rightAt s at 4) refl ref
 
 -- which of them it is, as the code has it
 module _ (s : List ℕ) (at : ℕ) {t : Bool} (e : t ≡ rightAt s at 3) where
-  pub size-trade : t ≡ true → 14 ≡ recordSize s at
-  unfolding recordSize
+  pub size-trade : t ≡ true → 14 ≡ rightSize s at
+  unfolding rightSize
   size-trade h = rw (sym e ∙ h)
 
   module _ (h : t ≡ false) {q : Bool} (k : q ≡ rightAt s at 4) where
-    pub size-quote : q ≡ true → 17 ≡ recordSize s at
-    unfolding recordSize
+    pub size-quote : q ≡ true → 17 ≡ rightSize s at
+    unfolding rightSize
     size-quote l = rw (sym e ∙ h, sym k ∙ l)
 
-    pub size-none : q ≡ false → 0 ≡ recordSize s at
-    unfolding recordSize
+    pub size-none : q ≡ false → 0 ≡ rightSize s at
+    unfolding rightSize
     size-none l = rw (sym e ∙ h, sym k ∙ l)
+
+-- its bytes are in the sheet; the shortest record has fourteen
+pub right-inside : (s : List ℕ) (at : ℕ) {size : ℕ} → size ≡ rightSize s at → (size ≡ 0 → ⊥) → at + 8 ≤ length s
+unfolding rightSize
+right-inside s at {size} e some = by-test (rightAt s at 3) (rightAt s at 4) e
+  where
+    inside : at + size ≤ length s
+    inside = shape-grows s at (recorded s at e some .shape) .1
+
+    by-test : (t q : Bool) → size ≡ cond t 14 (cond q 17 0) → at + 8 ≤ length s
+    by-test true q z = omega (arith, inside, z)
+    by-test false true z = omega (arith, inside, z)
+    by-test false false z = absurd (some z)
+
+-- as the code has it: none stands there, its instrument is let be, or is not
+module _ (s : List ℕ) (at third : ℕ) {size : ℕ} (e : size ≡ rightSize s at) where
+  pub sized-none : size ≡ 0 → 0 ≡ recordSize s at third
+  unfolding recordSize
+  sized-none h = by-test (allowed third (getD s (at + 7) 0))
+    where
+      by-test : (t : Bool) → 0 ≡ cond t (rightSize s at) 0
+      by-test true = sym h ∙ e
+      by-test false = refl
+
+  pub sized-let : {t : Bool} → t ≡ allowed third (getD s (at + 7) 0) → t ≡ true → size ≡ recordSize s at third
+  unfolding recordSize
+  sized-let k h = e ∙ rw (sym k ∙ h) refl
+
+  pub sized-barred : {t : Bool} → t ≡ allowed third (getD s (at + 7) 0) → t ≡ false → 0 ≡ recordSize s at third
+  unfolding recordSize
+  sized-barred k h = rw (sym k ∙ h) refl
+
+-- a record that may come next: it stands there, and its instrument is let be
+sized : (s : List ℕ) (at third : ℕ) {size : ℕ} → size ≡ recordSize s at third → (size ≡ 0 → ⊥) → (size ≡ rightSize s at) × (allowed third (getD s (at + 7) 0) ≡ true)
+unfolding recordSize
+sized s at third {size} e some = by-test (allowed third (getD s (at + 7) 0)) refl e
+  where
+    by-test : (t : Bool) → allowed third (getD s (at + 7) 0) ≡ t → size ≡ cond t (rightSize s at) 0 → (size ≡ rightSize s at) × (allowed third (getD s (at + 7) 0) ≡ true)
+    by-test true k z = (z, k)
+    by-test false k z = absurd (some z)
 
 pub record Nearly (s : List ℕ) (at : ℕ) (p : Progress) : Type 0 where
   pub small : length s ≤ 1048576
@@ -155,9 +204,12 @@ pub record Nearly (s : List ℕ) (at : ℕ) (p : Progress) : Type 0 where
 pub nearly : {s : List ℕ} {at : ℕ} {p : Progress} → Opened s at p → Nearly s at p
 nearly o = record { small = o .track .small; within = o .track .within; counts = o .track .counts; later = omega (arith, o .first); track = λ d. o .track }
 
-module _ (s : List ℕ) (at : ℕ) (p : Progress) (o : Nearly s at p) {size : ℕ} (e : size ≡ recordSize s at) (some : size ≡ 0 → ⊥) where
+module _ (s : List ℕ) (at : ℕ) (p : Progress) (o : Nearly s at p) {size : ℕ} (e : size ≡ recordSize s at (thirdOf (p .form))) (some : size ≡ 0 → ⊥) where
+  found : (size ≡ rightSize s at) × (allowed (thirdOf (p .form)) (getD s (at + 7) 0) ≡ true)
+  found = sized s at (thirdOf (p .form)) e some
+
   record-grows : (at < at + size) × (at + size ≤ length s)
-  record-grows = shape-grows s at (recorded s at e some .shape)
+  record-grows = shape-grows s at (recorded s at (found .0) some .shape)
 
   pub record-room : p .count < 1048576
   record-room = omega (arith, record-grows, o .small, o .counts)
@@ -168,19 +220,12 @@ module _ (s : List ℕ) (at : ℕ) (p : Progress) (o : Nearly s at p) {size : �
   pub record-less : left s (at + size) < left s at
   record-less = omega (arith, record-grows)
 
-  -- the shortest record has fourteen bytes
   pub record-whole : at + 7 ≤ length s
-  unfolding recordSize
-  record-whole = by-test (rightAt s at 3) (rightAt s at 4) e
-    where
-      by-test : (t q : Bool) → size ≡ cond t 14 (cond q 17 0) → at + 7 ≤ length s
-      by-test true q z = omega (arith, record-grows .1, z)
-      by-test false true z = omega (arith, record-grows .1, z)
-      by-test false false z = absurd (some z)
+  record-whole = omega (arith, right-inside s at (found .0) some)
 
   pub record-next : {time : ℕ} {q : Progress} → time ≡ be4At s (at + 3) → p .time ≤ time → q ≡ afterRecord p time → Nearly s (at + size) q
   record-next {time} {q} w l k =
-      let r = recorded s at e some in
+      let r = recorded s at (found .0) some in
       let g = record-grows in
       rw k
       (record {
@@ -188,7 +233,7 @@ module _ (s : List ℕ) (at : ℕ) (p : Progress) (o : Nearly s at p) {size : �
         within = g .1;
         counts = omega (arith, o .counts, g .0);
         later = omega arith;
-        track = λ d. on-next s at p (o .track (omega (arith, l, d))) (r .shape) (r .next p (rw w at l) (rw w at d) (o .later) record-room ∙ ap (λ (t : ℕ). goes (afterRecord p t)) (sym w));
+        track = λ d. on-next s at p (o .track (omega (arith, l, d))) (r .shape) (r .next p (found .1) (rw w at l) (rw w at d) (o .later) record-room ∙ ap (λ (t : ℕ). goes (afterRecord p t)) (sym w));
       })
 
 -- on the way, and behind the header, once the last time is known to be one of the day

@@ -19,18 +19,25 @@ totals-requires c κs = search needs
 enum-known-judged : tie.Need-enum-known-judged
 enum-known-judged c = search needs
 
+third-of-requires : tie.Need-third-of-requires
+third-of-requires c κs = search needs
+
 price-all-requires : tie.Need-price-all-requires
 unfolding totalsBy
 price-all-requires c κs =
-    let e = accepted (c .before .before) in
-    record { accepted = record { day = _; judged = e }; totals = c .before .before .before .before .totals .ensures .totals ∙ rw e }
+    let k = c .before .before .before in
+    let e = accepted k in
+    record { accepted = record { day = _; judged = e }; totals = k .before .before .totals .ensures .totals ∙ rw e }
 
 enum-known-judged-2 : tie.Need-enum-known-judged-2
 enum-known-judged-2 c = search needs
 
 returns : tie.Need-returns
 unfolding answersOf
-returns c = rw (accepted (c .before .before .before)) (ap (six (c .before .before .before .judged .given .0 .0)) (c .price-all .ensures))
+returns c =
+    let k = c .before .before .before .before in
+    let t = c .before in
+    rw (accepted k) (ap (six (k .judged .given .0 .0)) (rw (t .third-of .ensures) at (c .price-all .ensures)))
 
 returns-2 : tie.Need-returns-2
 unfolding answersOf
@@ -44,6 +51,7 @@ closings-spec =
     (tie.spec
     totals-requires
     enum-known-judged
+    third-of-requires
     price-all-requires
     enum-known-judged-2
     returns

@@ -4,16 +4,17 @@ use mathlib.Core.Path.{refl}
 use native.Mathlib.Omega.{arith}
 use Rattle.sheet.specs.Fields.{fieldsOf}
 use Rattle.price_rules.specs.Closing.{figuresOf}
+use Rattle.contract_price.specs.laws.Ready.{lent}
 use Rattle.six_answers.specs.laws.State.{Stands, stands-first, stands-bounded, stands-next, stands-all}
 use borrow.Author.Needs.{needs}
 use Rattle.six_answers.proofs.price_in_order.Statement.{statement}
 use Rattle.six_answers.proofs.price_in_order.Tie as tie
 
 abbrev Inv-loop : tie.InvT-loop
-Inv-loop sheet metal marks lots values rows legs closes₀ stopped₀ six₀ c₀ closes stopped six c = Stands (figuresOf metal marks (fieldsOf sheet)) closes stopped six c
+Inv-loop sheet metal marks third lots values rows legs closes₀ stopped₀ six₀ c₀ closes stopped six c = Stands (figuresOf metal marks third (fieldsOf sheet)) closes stopped six c
 
 abbrev μ-loop : tie.MeasureT-loop
-μ-loop sheet metal marks lots values rows legs closes₀ stopped₀ six₀ c₀ closes stopped six c = 6 - c
+μ-loop sheet metal marks third lots values rows legs closes₀ stopped₀ six₀ c₀ closes stopped six c = 6 - c
 
 contract-rows-requires : tie.Need-contract-rows-requires Inv-loop μ-loop
 contract-rows-requires c κs = search needs
@@ -22,16 +23,20 @@ instrument-rows-requires : tie.Need-instrument-rows-requires Inv-loop μ-loop
 instrument-rows-requires c κs = search needs
 
 loop-holds : tie.Need-loop-holds Inv-loop μ-loop
-loop-holds c = stands-first _ _ refl
+loop-holds c = stands-first _ _ refl refl
+
+array-copy-out-three : tie.Need-array-copy-out-three Inv-loop μ-loop
+array-copy-out-three c = search needs
 
 slice-aggregate-price-one : tie.Need-slice-aggregate-price-one Inv-loop μ-loop
 slice-aggregate-price-one c = search needs
 
 price-one-requires : tie.Need-price-one-requires Inv-loop μ-loop
 price-one-requires c κs =
-    let t = c .before .before .before .before .before in
+    let l = c .before .before .before .before .before in
+    let t = l .before in
     let s = t .before .before .before in
-    (record { ready = s .pre; rows = t .before .contract-rows .ensures; legs = t .instrument-rows .ensures }, stands-bounded _ (c .before .before .before .before .loop .inv), omega arith)
+    (lent (s .pre) (t .before .contract-rows .ensures) (t .instrument-rows .ensures), stands-bounded _ (l .loop .inv), omega arith)
 
 mul-six : tie.Need-mul-six Inv-loop μ-loop
 mul-six c = search needs
@@ -58,7 +63,7 @@ loop-less : tie.Need-loop-less Inv-loop μ-loop
 loop-less c = search needs
 
 loop-again : tie.Need-loop-again Inv-loop μ-loop
-loop-again c = stands-next _ (c .before .before .before .before .before .before .before .loop .inv) _ (omega arith) (c .before .before .price-one .ensures) (c .before .close-in .ensures) (c .is-refused .ensures)
+loop-again c = stands-next _ (c .before .before .before .before .before .before .before .before .loop .inv) _ (omega arith) (c .before .before .price-one .ensures) (c .before .close-in .ensures) (c .is-refused .ensures)
 
 returns : tie.Need-returns Inv-loop μ-loop
 returns c = stands-all _ (c .before .loop .inv) (omega arith)
@@ -72,6 +77,7 @@ price-in-order-spec =
     contract-rows-requires
     instrument-rows-requires
     loop-holds
+    array-copy-out-three
     slice-aggregate-price-one
     price-one-requires
     mul-six

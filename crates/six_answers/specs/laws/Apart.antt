@@ -27,7 +27,7 @@ unfolding paired
 paired-apart [] = refl
 paired-apart (t ∷ ts) = ap (λ (us : List Total). t ∷ us) (paired-apart ts)
 
-pub ready-apart : (s : List ℕ) (book : Book) {lots : List ℕ} {values : List ℤ} → Ready s book → lots ≡ map lotsOnly (book .totals) → values ≡ map valueOnly (book .totals) → Ready s (bookOf (book .metal) (book .marks) lots values)
+pub ready-apart : (s : List ℕ) (book : Book) {lots : List ℕ} {values : List ℤ} → Ready s book → lots ≡ map lotsOnly (book .totals) → values ≡ map valueOnly (book .totals) → Ready s (bookOf (book .metal) (book .marks) (book .third) lots values)
 ready-apart s book r e f = record { accepted = r .accepted; totals = rw (e, f, paired-apart (book .totals)) (r .totals) }
 
 -- ---- a loop that takes them apart

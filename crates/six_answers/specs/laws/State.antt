@@ -10,11 +10,12 @@ use Prim.Native.Nat.{ℕ, zero, suc, _+_, _≤_, _<_}
 use native.Mathlib.Numerals.{add-one}
 use native.Mathlib.Decide.{decLt}
 use native.Mathlib.Omega.{arith}
-use lib.Dec.{T, leb, leb→le}
+use borrow.Author.Tests.{ne-eqb}
+use lib.Dec.{T, leb, eqb, leb→le}
 use lib.ListN.{length, getD, set, replicate, length-set}
 use lib.Seq.{getD-set-same, getD-set-other, set-getD}
 use lib.IntN.{ℤ, pos, negsuc}
-use Rattle.market.specs.Market.{contractOf, stepOf}
+use Rattle.market.specs.Market.{3M, contractOf, stepOf, named}
 use Rattle.cents.specs.Round.{round}
 use Rattle.cents.specs.Close.{closeOf}
 use Rattle.cents.specs.Close as cents
@@ -22,11 +23,10 @@ use Rattle.price_rules.specs.declared.Method.{Method}
 use Rattle.price_rules.specs.declared.Method.the-variants.{Vwap}
 use Rattle.price_rules.specs.declared.Mean.{Mean}
 use Rattle.price_rules.specs.declared.Mean.the-variants.{Of, Missing}
-use Rattle.price_rules.specs.declared.Known.{Known}
 use Rattle.price_rules.specs.declared.Answer.{Answer}
 use Rattle.price_rules.specs.declared.Answer.the-variants.{Priced}
 use Rattle.price_rules.specs.declared.SixAnswers.{SixAnswers}
-use Rattle.price_rules.specs.Closing.{Figures, lotsOf, meanOf, Told, close, refused, closed, answered, rowAnswer, answerBy, learnt, nothingKnown, knownAt, answerOf, closingsOf}
+use Rattle.price_rules.specs.Closing.{Figures, lotsOf, meanOf, Told, close, refused, closed, answered, rowAnswer, Known, answerBy, closesWith, isRefused, learnt, nothingKnown, knownAt, answerOf, closingsOf}
 use Rattle.price_rules.specs.laws.Adding.{Bounded}
 use Rattle.price_rules.specs.Says.{answerSays, closingsSay}
 
@@ -71,12 +71,13 @@ row-small : (day : Figures) (closes : List ℕ) (c : ℕ) → Small (rowAnswer d
 unfolding rowAnswer
 row-small day closes c = answered-small (stepOf (day .metal) c) (lotsOf day (contractOf c)) (meanOf day closes (contractOf c))
 
-answer-small : (day : Figures) (k : Known) (c : ℕ) → Small (answerBy day k c)
-answer-small day k c = by (k .stopped)
+answer-small : (day : Figures) (k : Known) (c : ℕ) → Small (k .three) → Small (answerBy day k c)
+answer-small day k c h = by (k .stopped) (named (day .third) c)
   where
-    by : (t : Bool) → Small (cond t (refused 15 0) (rowAnswer day (k .closes) c))
-    by true = tt
-    by false = row-small day (k .closes) c
+    by : (t n : Bool) → Small (cond t (refused 15 0) (cond n (k .three) (rowAnswer day (k .closes) c)))
+    by true n = tt
+    by false true = h
+    by false false = row-small day (k .closes) c
 
 set-small : (l : List ℕ) (i m : ℕ) → m ≤ 99999999 → ((c : ℕ) → getD l c 0 ≤ 99999999) → (c : ℕ) → getD (set l i m) c 0 ≤ 99999999
 set-small [] i m h k c = k c
@@ -85,51 +86,63 @@ set-small (x ∷ l) zero m h k (suc c) = k (suc c)
 set-small (x ∷ l) (suc i) m h k zero = k zero
 set-small (x ∷ l) (suc i) m h k (suc c) = set-small l i m h (λ j. k (suc j)) c
 
-learnt-bounded : (k : Known) (c : ℕ) (a : Told) → Bounded (k .closes) → Small a → Bounded (learnt k c a .closes)
-learnt-bounded k c (close method m lots) b s = record { small = set-small (k .closes) c m s (b .small) }
-learnt-bounded k c (refused number lots) b s = b
+closes-bounded : (closes : List ℕ) (c : ℕ) (a : Told) → Bounded closes → Small a → Bounded (closesWith closes c a)
+closes-bounded closes c (close method m lots) b s = record { small = set-small closes c m s (b .small) }
+closes-bounded closes c (refused number lots) b s = b
+
+-- what is known of a contract, 3M's answer too, has only closes
+record AllSmall (k : Known) : Type 0 where
+  closes : Bounded (k .closes)
+  three : Small (k .three)
+
+learnt-small : (k : Known) (c : ℕ) (a : Told) → AllSmall k → Small a → AllSmall (learnt k c a)
+learnt-small k c a b s = record { closes = closes-bounded (k .closes) c a (b .closes) s; three = by (eqb c 3M) }
+  where
+    by : (t : Bool) → Small (cond t a (k .three))
+    by true = s
+    by false = b .three
 
 none-set : (n c : ℕ) → _≡_ {A = ℕ} (getD (replicate n 0) c 0) 0
 none-set zero c = refl
 none-set (suc n) zero = refl
 none-set (suc n) (suc c) = none-set n c
 
-pub known-bounded : (day : Figures) (c : ℕ) → Bounded (knownAt day c .closes)
+known-small : (day : Figures) (c : ℕ) → AllSmall (knownAt day c)
 unfolding knownAt
-known-bounded day zero = record { small = λ c. omega (arith, none-set 6 c) }
-known-bounded day (suc c) = learnt-bounded (knownAt day c) c (answerBy day (knownAt day c) c) (known-bounded day c) (answer-small day (knownAt day c) c)
+known-small day zero = record { closes = record { small = λ c. omega (arith, none-set 6 c) }; three = tt }
+known-small day (suc c) = let k = known-small day c in learnt-small (knownAt day c) c (answerBy day (knownAt day c) c) k (answer-small day (knownAt day c) c (k .three))
+
+pub known-bounded : (day : Figures) (c : ℕ) → Bounded (knownAt day c .closes)
+known-bounded day c = known-small day c .closes
 
 -- ---- one step of the code
 
--- the close of an answer, 0 where it has none; and whether it is refused
+-- the close of an answer, 0 where it has none
 abbrev pub closeIn : Told → ℕ
 closeIn (close method m lots) = m
 closeIn (refused number lots) = 0
 
-abbrev pub isRefused : Told → Bool
-isRefused (close method m lots) = false
-isRefused (refused number lots) = true
-
 -- a contract that is still to be priced has no close
-learnt-unset : (k : Known) (c : ℕ) (a : Told) (j : ℕ) → c < j → getD (k .closes) j 0 ≡ 0 → getD (learnt k c a .closes) j 0 ≡ 0
-learnt-unset k c (close method m lots) j h e = getD-set-other (k .closes) c j m 0 (λ f. omega arith) ∙ e
-learnt-unset k c (refused number lots) j h e = e
+with-unset : (closes : List ℕ) (c : ℕ) (a : Told) (j : ℕ) → c < j → getD closes j 0 ≡ 0 → getD (closesWith closes c a) j 0 ≡ 0
+with-unset closes c (close method m lots) j h e = getD-set-other closes c j m 0 (λ f. omega arith) ∙ e
+with-unset closes c (refused number lots) j h e = e
 
 unset : (day : Figures) (c j : ℕ) → c ≤ j → getD (knownAt day c .closes) j 0 ≡ 0
 unfolding knownAt
 unset day zero j h = none-set 6 j
-unset day (suc c) j h = learnt-unset (knownAt day c) c (answerBy day (knownAt day c) c) j (omega arith) (unset day c j (omega arith))
+unset day (suc c) j h = with-unset (knownAt day c .closes) c (answerBy day (knownAt day c) c) j (omega arith) (unset day c j (omega arith))
 
 -- so that the close is what is learnt at its place, 0 where there is none
-abbrev pub knownBy : List ℕ → Bool → Known
-knownBy closes stopped = record { closes = closes; stopped = stopped }
+with-is : (closes : List ℕ) (c : ℕ) (a : Told) → getD closes c 0 ≡ 0 → set closes c (closeIn a) ≡ closesWith closes c a
+with-is closes c (close method m lots) e = refl
+with-is closes c (refused number lots) e = rw e at (set-getD closes c 0)
 
-learnt-is : (k : Known) (c : ℕ) (a : Told) → getD (k .closes) c 0 ≡ 0 → knownBy (set (k .closes) c (closeIn a)) (isRefused a) ≡ learnt k c a
-learnt-is k c (close method m lots) e = refl
-learnt-is k c (refused number lots) e = ap (λ (l : List ℕ). knownBy l true) (rw e at (set-getD (k .closes) c 0))
+-- what is known, as the code has it
+abbrev pub knownBy : List ℕ → Bool → Told → Known
+knownBy closes stopped three = record { closes = closes; stopped = stopped; three = three }
 
 -- an array of six answers by name; what its `getD` gives past the end is never asked
-abbrev at : List Answer → ℕ → Answer
+abbrev pub at : List Answer → ℕ → Answer
 at six c = getD six c (Priced Vwap 0 0)
 
 abbrev pub byName : List Answer → SixAnswers
@@ -144,24 +157,30 @@ pub record Stands (day : Figures) (closes : List ℕ) (stopped : Bool) (six : Li
   pub within : c ≤ 6
   pub closes-long : length closes ≡ 6
   pub six-long : length six ≡ 6
-  pub known : knownBy closes stopped ≡ knownAt day c
+  pub known : knownBy closes stopped (answerSays (at six 0)) ≡ knownAt day c
   pub told : (j : ℕ) (d : Answer) → j < c → answerSays (getD six j d) ≡ answerOf day j
 
-pub stands-first : (day : Figures) (six : List Answer) → length six ≡ 6 → Stands day (nothingKnown .closes) false six 0
+-- 3M's answer, where that of contract c is written
+three-with : (six : List Answer) (c : ℕ) (a : Answer) → length six ≡ 6 → answerSays (at (set six c a) 0) ≡ cond (eqb c 3M) (answerSays a) (answerSays (at six 0))
+three-with [] c a h = absurd (omega arith)
+three-with (x ∷ l) zero a h = refl
+three-with (x ∷ l) (suc c) a h = rw (ne-eqb (suc c) 3M (λ e. omega arith)) refl
+
+pub stands-first : (day : Figures) (six : List Answer) → length six ≡ 6 → answerSays (at six 0) ≡ refused 15 0 → Stands day (nothingKnown .closes) false six 0
 unfolding knownAt
-stands-first day six e = record { within = omega arith; closes-long = refl; six-long = e; known = refl; told = λ j d h. absurd (omega arith) }
+stands-first day six e n = record { within = omega arith; closes-long = refl; six-long = e; known = ap (knownBy (nothingKnown .closes) false) n; told = λ j d h. absurd (omega arith) }
 
 module _ (day : Figures) {closes : List ℕ} {stopped : Bool} {six : List Answer} {c : ℕ} (s : Stands day closes stopped six c) where
   pub stands-bounded : Bounded closes
   stands-bounded = rw (← ap (λ (k : Known). k .closes) (s .known)) at (known-bounded day c)
 
-  pub stands-next : (a : Answer) {m : ℕ} {t : Bool} → c < 6 → answerSays a ≡ answerBy day (knownBy closes stopped) c → m ≡ closeIn (answerSays a) → t ≡ isRefused (answerSays a) → Stands day (set closes c m) t (set six c a) (c + 1)
+  pub stands-next : (a : Answer) {m : ℕ} {t : Bool} → c < 6 → answerSays a ≡ answerBy day (knownBy closes stopped (answerSays (at six 0))) c → m ≡ closeIn (answerSays a) → t ≡ isRefused (answerSays a) → Stands day (set closes c m) t (set six c a) (c + 1)
   unfolding knownAt
   stands-next a {m} {t} h e f g = record {
     within = omega arith;
     closes-long = length-set closes c m ∙ s .closes-long;
     six-long = length-set six c a ∙ s .six-long;
-    known = rw (f, g, add-one c) (learnt-is (knownBy closes stopped) c (answerSays a) none ∙ ap (λ (k : Known). learnt k c (answerSays a)) (s .known) ∙ ap (learnt (knownAt day c) c) answer);
+    known = rw (f, g, add-one c, with-is closes c (answerSays a) none, three-with six c a (s .six-long)) (ap (λ (k : Known). learnt k c (answerSays a)) (s .known) ∙ ap (learnt (knownAt day c) c) answer);
     told = λ j d l. by-place j d (decLt j c) l;
   }
     where

@@ -10,6 +10,7 @@ use lib.ListN.{length, length-append}
 use borrow.Author.Tests.{le-leb, lt-leb}
 use mir.Syntax.{w64}
 use mir.Val.{Fits}
+use Rattle.field.specs.declared.Form.the-variants.{Short, Long}
 use Rattle.field.specs.declared.Field.{Field}
 use Rattle.field.specs.declared.Field.the-variants as F
 use Rattle.field.specs.Layout.{sizeOf, tagOf, fieldBytes, bodyBytes}
@@ -76,7 +77,8 @@ measured-none bytes h = let z : bytes + 0 ≡ bytes = omega arith in ap Bytes (s
 
 size-small : (f : Field) → sizeOf (tagOf f) ≤ 17
 unfolding tagOf
-size-small (F.Header metal marks) = omega arith
+size-small (F.Header metal marks Short) = omega arith
+size-small (F.Header metal marks (Long third)) = omega arith
 size-small (F.PreviousClose instrument p) = omega arith
 size-small (F.Trade time instrument p lots) = omega arith
 size-small (F.Quote time instrument sides bid offer) = omega arith

@@ -62,7 +62,7 @@ took line p L.Malformed later fs e = clash cc
 
 pub lined : (f : Field) → (tagOf f ≡ 5 → ⊥) → Lined f
 unfolding tagOf
-lined (F.Header metal marks) h = tt
+lined (F.Header metal marks form) h = tt
 lined (F.PreviousClose instrument p) h = tt
 lined (F.Trade time instrument p lots) h = tt
 lined (F.Quote time instrument sides bid offer) h = tt
@@ -70,7 +70,7 @@ lined (F.End count) h = h refl
 
 pub line-is : (f : Field) → Lined f → lineText f ≡ lineOf f ++ 10 ∷ []
 unfolding lineText
-line-is (F.Header metal marks) h = refl
+line-is (F.Header metal marks form) h = refl
 line-is (F.PreviousClose instrument p) h = refl
 line-is (F.Trade time instrument p lots) h = refl
 line-is (F.Quote time instrument sides bid offer) h = refl

@@ -19,7 +19,7 @@ use Rattle.field.specs.declared.Field.{Field}
 use Rattle.field.specs.declared.Field.the-variants as F
 use Rattle.field.specs.Judging.{unless, also, judge}
 use Rattle.admit.specs.declared.Progress.{Progress}
-use Rattle.admit.specs.Admitting.{start, goes, ends, admit, admitted, admitNumber, placed, countNumber}
+use Rattle.admit.specs.Admitting.{start, beforeOf, goes, ends, admit, admitted, admitNumber, placed, countNumber}
 use Rattle.admit.specs.laws.Admitting.{Passed, went, ended, went-counts, kept, end-is, admit-fine}
 use Rattle.sheet.specs.declared.Day.{Day}
 use Rattle.sheet.specs.Fields.{fieldsOf, encode}
@@ -58,7 +58,7 @@ text-back line p l (m ∷ ms) fs e =
     let i = text-back (line + 1) (k .r) m ms (k .gs) (k .after) in
     ap textOf (k .are)
     ∙ text-more (k .f) (k .gs) n
-    ∙ ap (λ (v : List ℕ). v ++ 10 ∷ textOf (k .gs)) (read-line (capped p .time) l (k .f) (k .said) (w .values))
+    ∙ ap (λ (v : List ℕ). v ++ 10 ∷ textOf (k .gs)) (read-line (beforeOf (capped p)) l (k .f) (k .said) (w .values))
     ∙ ap (λ (v : List ℕ). l ++ 10 ∷ v) i
 
 -- its fields with a right end lead through the day
@@ -160,8 +160,8 @@ unfolding sayLines sayLine onward
 more-taped line p r f fs x h a i =
     let w = went p f r a .0 in
     let n = lined f (kept p f r a .no-end) in
-    let c = cut-at 10 (lineOf f) x (line-lacks (p .time) f (w .values)) in
-    let s = line-read (p .time) f (w .values) n in
+    let c = cut-at 10 (lineOf f) x (line-lacks (beforeOf p) f (w .values)) in
+    let s = line-read (beforeOf p) f (w .values) n in
     let g : admit (capped p) f ≡ goes r = ap (λ (v : Progress). admit v f) (sym (capped-same p h)) ∙ a in
     let z : p .count + suc (length (i .gs)) ≡ r .count + length (i .gs) = omega (arith, went-counts p f r a) in
     record {

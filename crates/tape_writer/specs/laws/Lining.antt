@@ -18,6 +18,7 @@ use Rattle.field.specs.declared.Read.{Read}
 use Rattle.field.specs.declared.Read.the-variants as R
 use Rattle.field.specs.Said.{readSays}
 use Rattle.field.specs.Reading.{shapeAt}
+use Rattle.field.specs.Judging.{alone}
 use Rattle.field.specs.laws.Sound.{Sound}
 use Rattle.sheet.specs.declared.Day.{Day}
 use Rattle.sheet.specs.declared.Judged.{Judged}
@@ -42,7 +43,7 @@ pub record Readable (s : List ℕ) : Type 0 where
   pub whole : textLong (fieldsOf s) ≤ 3 * length s
   pub small : length s ≤ 1048576
 
-each-line : (fs : List Field) → Each (Sound 0) fs → Each (λ f. length (lineText f) ≤ 64) fs
+each-line : (fs : List Field) → Each (Sound alone) fs → Each (λ f. length (lineText f) ≤ 64) fs
 each-line [] k = tt
 each-line (f ∷ fs) k = (omega (arith, line-most f (k .0)), each-line fs (k .1))
 

@@ -21,6 +21,7 @@ use Rattle.field.specs.Layout.{sizeOf, tradeOf, fieldOf}
 use Rattle.field.specs.Said.{gives}
 use Rattle.field.specs.Reading.{bodyAt, shapeAt}
 use Rattle.field.specs.laws.Field.{clash, Headed, Shaped, shaped}
+use Rattle.field.specs.Judging.{alone}
 use Rattle.field.specs.laws.Sound.{Sound}
 use Rattle.market.specs.declared.Metal.{Metal}
 use Rattle.market.specs.Market.{metalOf, startOf, inWindow}
@@ -46,7 +47,7 @@ withTrade t price lots = record { lots = t .lots + lots; value = t .value +ℤ p
 
 -- a trade counts inside its instrument's window, and no other field does
 unfoldable pub countedOf : ℕ → Field → Counted
-countedOf metal (Header m marks) = C.Nothing
+countedOf metal (Header m marks form) = C.Nothing
 countedOf metal (PreviousClose instrument price) = C.Nothing
 countedOf metal (Trade time instrument price lots) = cond (inWindow (startOf metal instrument) time) (C.Trade instrument price lots) C.Nothing
 countedOf metal (Quote time instrument sides bid offer) = C.Nothing
@@ -54,7 +55,7 @@ countedOf metal (End count) = C.Nothing
 
 -- the same by the row of the metal, which the code has looked up
 unfoldable pub countedIn : Metal → Field → Counted
-countedIn row (Header m marks) = C.Nothing
+countedIn row (Header m marks form) = C.Nothing
 countedIn row (PreviousClose instrument price) = C.Nothing
 countedIn row (Trade time instrument price lots) = cond (inWindow (startIn row instrument) time) (C.Trade instrument price lots) C.Nothing
 countedIn row (Quote time instrument sides bid offer) = C.Nothing
@@ -62,7 +63,7 @@ countedIn row (End count) = C.Nothing
 
 counted-row : (metal : ℕ) (f : Field) → countedIn (metalOf metal) f ≡ countedOf metal f
 unfolding countedIn countedOf startIn startOf
-counted-row metal (Header m marks) = refl
+counted-row metal (Header m marks form) = refl
 counted-row metal (PreviousClose instrument price) = refl
 counted-row metal (Trade time instrument price lots) = refl
 counted-row metal (Quote time instrument sides bid offer) = refl
@@ -146,7 +147,7 @@ module _ (metal : ℕ) (fs : List Field) where
 -- one field more, whatever it is
 pub totals-step : (metal : ℕ) (fs : List Field) (f : Field) → totalsOf metal (fs ++ (f ∷ [])) ≡ addField metal (totalsOf metal fs) f
 unfolding countedOf addCounted tradeIn
-totals-step metal fs (Header m marks) = totals-same metal fs (Header m marks) (λ i. refl)
+totals-step metal fs (Header m marks form) = totals-same metal fs (Header m marks form) (λ i. refl)
 totals-step metal fs (PreviousClose instrument price) = totals-same metal fs (PreviousClose instrument price) (λ i. refl)
 totals-step metal fs (Trade time instrument price lots) = totals-trade metal fs time instrument price lots
 totals-step metal fs (Quote time instrument sides bid offer) = totals-same metal fs (Quote time instrument sides bid offer) (λ i. refl)
@@ -172,19 +173,19 @@ pub counted-by : (row : Metal) {f g : Field} → f ≡ g → countedIn row g ≡
 counted-by row e = sym (ap (countedIn row) e)
 
 -- a trade that counts is on an instrument, where the field's values are in their ranges
-on-by : (row : Metal) (f : Field) (instrument : ℕ) (price : Price) (lots : ℕ) → countedIn row f ≡ C.Trade instrument price lots → Sound 0 f → instrument < 12
+on-by : (row : Metal) (f : Field) (instrument : ℕ) (price : Price) (lots : ℕ) → countedIn row f ≡ C.Trade instrument price lots → Sound alone f → instrument < 12
 unfolding countedIn
-on-by row (Header m marks) instrument price lots e h = clash cc
+on-by row (Header m marks form) instrument price lots e h = clash cc
 on-by row (PreviousClose i p) instrument price lots e h = clash cc
 on-by row (Trade time i p l) instrument price lots e h = by-test (inWindow (startIn row i) time) e
   where
     by-test : (b : Bool) → cond b (C.Trade i p l) C.Nothing ≡ C.Trade instrument price lots → instrument < 12
-    by-test true g = let same : i ≡ instrument = cc in omega (arith, h .stamp .instrument-in)
+    by-test true g = let same : i ≡ instrument = cc in omega (arith, h .stamp .on .in-table)
     by-test false g = clash cc
 on-by row (Quote time i sides bid offer) instrument price lots e h = clash cc
 on-by row (End count) instrument price lots e h = clash cc
 
-pub counted-on : (row : Metal) (f : Field) {r : Counted} {instrument : ℕ} {price : Price} {lots : ℕ} → r ≡ countedIn row f → r ≡ C.Trade instrument price lots → Sound 0 f → instrument < 12
+pub counted-on : (row : Metal) (f : Field) {r : Counted} {instrument : ℕ} {price : Price} {lots : ℕ} → r ≡ countedIn row f → r ≡ C.Trade instrument price lots → Sound alone f → instrument < 12
 counted-on row f {r} {instrument} {price} {lots} e d h = on-by row f instrument price lots (sym e ∙ d) h
 
 -- ---- the pass over a sheet that fields fill
@@ -192,7 +193,7 @@ counted-on row f {r} {instrument} {price} {lots} e d h = on-by row f instrument 
 -- fields stand one after the other up to its end, and their values are in their ranges
 pub record Filled (s : List ℕ) : Type 0 where
   pub stood : Stood s 0 (fieldsOf s) (length s)
-  pub sound : Each (Sound 0) (fieldsOf s)
+  pub sound : Each (Sound alone) (fieldsOf s)
 
 -- at a place of the sheet: the totals are those of the fields before it, and fields stand from there to the end
 pub record Passing (metal : ℕ) (s : List ℕ) (at : ℕ) (ts : List Total) : Type 0 where
@@ -233,7 +234,7 @@ module _ (metal : ℕ) (s : List ℕ) (at : ℕ) (ts : List Total) (o : Passing 
   pub pass-small : Filled s → length s ≤ 1048576 → (i : ℕ) → Small 1048576 (getD ts i none)
   pass-small f l i =
       let b : length (o .sofar .before) ≤ 1048576 = omega (arith, o .sofar .short, o .sofar .within) in
-      rw (o .sofar .same) (totals-small metal (o .sofar .before) 1048576 (sofar-each (totalsOf metal) s at ts (o .sofar) (Sound 0) (f .sound)) b i)
+      rw (o .sofar .same) (totals-small metal (o .sofar .before) 1048576 (sofar-each (totalsOf metal) s at ts (o .sofar) (Sound alone) (f .sound)) b i)
 
   module _ (l : at < length s) where
     place : Here s at
@@ -264,8 +265,8 @@ module _ (metal : ℕ) (s : List ℕ) (at : ℕ) (ts : List Total) (o : Passing 
       unfolding fieldOf
       trade-is h e = sym (shape .values) ∙ ap (λ (x : ℕ). fieldOf x (bodyAt s at x)) (sym k ∙ h) ∙ sym e
 
-      pub pass-sound : {f : Field} → tag ≡ 3 → f ≡ tradeOf (bodyAt s at 3) → Filled s → Sound 0 f
-      pass-sound {f} h e g = subst (Sound 0) (trade-is h e) (sofar-here (totalsOf metal) s at ts (o .sofar) {r = R.Field (place .field) (place .next)} (sym (place .shape)) (Sound 0) (g .sound) refl)
+      pub pass-sound : {f : Field} → tag ≡ 3 → f ≡ tradeOf (bodyAt s at 3) → Filled s → Sound alone f
+      pass-sound {f} h e g = subst (Sound alone) (trade-is h e) (sofar-here (totalsOf metal) s at ts (o .sofar) {r = R.Field (place .field) (place .next)} (sym (place .shape)) (Sound alone) (g .sound) refl)
 
       -- behind it, with what it counts
       on-with : (c : Counted) → c ≡ countedOf metal (place .field) → {n : ℕ} → n ≡ sizeOf tag → Passing metal s (at + n) (addCounted ts c)
@@ -292,7 +293,7 @@ module _ (metal : ℕ) (s : List ℕ) (at : ℕ) (ts : List Total) (o : Passing 
       pass-other h e = on-with C.Nothing (no-trade (place .field) (shape .values)) e
         where
           no-trade : (f : Field) → fieldOf (getD s at 0) (bodyAt s at (getD s at 0)) ≡ f → C.Nothing ≡ countedOf metal f
-          no-trade (Header m marks) v = refl
+          no-trade (Header m marks form) v = refl
           no-trade (PreviousClose instrument price) v = refl
           no-trade (Trade time instrument price lots) v = absurd (h (k ∙ tag-three (getD s at 0) _ v))
           no-trade (Quote time instrument sides bid offer) v = refl

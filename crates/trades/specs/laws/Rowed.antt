@@ -13,7 +13,7 @@ use lib.Dec.{leb, leb→le}
 use lib.ListN.{length}
 use Rattle.field.specs.declared.Field.{Field}
 use Rattle.field.specs.declared.Field.the-variants.{Header, PreviousClose, Trade, Quote, End}
-use Rattle.field.specs.Judging.{headerRight}
+use Rattle.field.specs.Judging.{alone, thirdOf, headerRight}
 use Rattle.field.specs.laws.Sound.{Sound, metal-range}
 use Rattle.market.specs.declared.Metal.{Metal}
 use Rattle.market.specs.Market.{metals, metalOf, instruments, stepOf, windowLength}
@@ -42,10 +42,10 @@ inDay r = both (leb (r .spread + 300000) 86400000) (leb (r .anchor + 300000) 864
 abbrev usable : Metal → Bool
 usable r = both (leb 1 (r .step)) (inDay r)
 
-pub rowed : (m marks : ℕ) → headerRight m marks ≡ true → Rowed m
+pub rowed : (m marks third : ℕ) → headerRight m marks third ≡ true → Rowed m
 unfolding metalOf
-rowed m marks e =
-    let range = metal-range m marks e in
+rowed m marks third e =
+    let range = metal-range m marks third e in
     let r = metalOf m in
     let t = from-one (λ m. usable (metalOf m)) 5 m tt (range .0) (omega (arith, range .1)) in
     let windows = both-right (leb 1 (r .step)) (inDay r) t in
@@ -58,17 +58,17 @@ rowed m marks e =
     }
 
 pub accepted-rowed : (s : List ℕ) (day : Day) → judgeSheet s ≡ accepts day → Rowed (day .metal)
-accepted-rowed s day a = rowed (day .metal) (day .marks) (accepted-right s day a)
+accepted-rowed s day a = rowed (day .metal) (day .marks) (thirdOf (day .form)) (accepted-right s day a)
 
 -- and every contract of an accepted sheet is rounded to a step above 0
 pub accepted-step : (s : List ℕ) (day : Day) (c : ℕ) → judgeSheet s ≡ accepts day → 0 < stepOf (day .metal) c
-accepted-step s day c a = let r = metal-range (day .metal) (day .marks) (accepted-right s day a) in step-some (day .metal) c (r .0) (r .1)
+accepted-step s day c a = let r = metal-range (day .metal) (day .marks) (thirdOf (day .form)) (accepted-right s day a) in step-some (day .metal) c (r .0) (r .1)
 
 -- ---- instruments
 
 -- the instrument of a field has a row; a header and an end have none
 abbrev pub Lined : Field → Type 0
-Lined (Header metal marks) = Unit {0}
+Lined (Header metal marks form) = Unit {0}
 Lined (PreviousClose instrument price) = instrument < length instruments
 Lined (Trade time instrument price lots) = instrument < length instruments
 Lined (Quote time instrument sides bid offer) = instrument < length instruments
@@ -78,14 +78,14 @@ Lined (End count) = Unit {0}
 pub lined : (i : ℕ) → i ≤ 11 → i < length instruments
 lined i h = omega (arith, h, leb→le 12 (length instruments) tt)
 
-field-lined : (f : Field) → Sound 0 f → Lined f
-field-lined (Header metal marks) h = tt
-field-lined (PreviousClose instrument price) h = lined instrument (h .0)
-field-lined (Trade time instrument price lots) h = lined instrument (h .stamp .instrument-in)
-field-lined (Quote time instrument sides bid offer) h = lined instrument (h .stamp .instrument-in)
+field-lined : (f : Field) → Sound alone f → Lined f
+field-lined (Header metal marks form) h = tt
+field-lined (PreviousClose instrument price) h = lined instrument (h .0 .in-table)
+field-lined (Trade time instrument price lots) h = lined instrument (h .stamp .on .in-table)
+field-lined (Quote time instrument sides bid offer) h = lined instrument (h .stamp .on .in-table)
 field-lined (End count) h = tt
 
-all-lined : (fs : List Field) → Each (Sound 0) fs → Each Lined fs
+all-lined : (fs : List Field) → Each (Sound alone) fs → Each Lined fs
 all-lined [] h = tt
 all-lined (f ∷ fs) h = (field-lined f (h .0), all-lined fs (h .1))
 

@@ -22,10 +22,11 @@ use Rattle.cents.specs.laws.Whole.{size-+, size-*}
 use Rattle.field.specs.declared.Price.{Price}
 use Rattle.field.specs.declared.Field.{Field}
 use Rattle.field.specs.declared.Field.the-variants.{Header, PreviousClose, Trade, Quote, End}
-use Rattle.field.specs.Layout.{sizeOf, headerOf, previousOf, tradeOf, quoteOf, endOf, fieldOf}
+use Rattle.field.specs.Layout.{sizeOf, headerOf, previousOf, tradeOf, quoteOf, endOf, longHeaderOf, fieldOf}
 use Rattle.field.specs.Said.{gives, refuses}
 use Rattle.field.specs.Reading.{shapeAt}
 use Rattle.field.specs.laws.Field.{clash, shaped}
+use Rattle.field.specs.Judging.{alone}
 use Rattle.field.specs.laws.Sound.{Sound, price-size}
 use Rattle.market.specs.Market.{startOf, inWindow}
 use Rattle.sheet.specs.declared.Day.{Day}
@@ -103,7 +104,7 @@ module _ (metal i time instrument : ℕ) (price : Price) (lots : ℕ) where
 
 -- the field is a trade on the instrument
 abbrev pub tradeOn : ℕ → Field → Bool
-tradeOn i (Header metal marks) = false
+tradeOn i (Header metal marks form) = false
 tradeOn i (PreviousClose instrument price) = false
 tradeOn i (Trade time instrument price lots) = eqb instrument i
 tradeOn i (Quote time instrument sides bid offer) = false
@@ -118,7 +119,7 @@ module _ (metal i : ℕ) where
   -- a field that is no trade on the instrument does not count
   pub trade-none : (f : Field) → tradeOn i f ≡ false → tradeIn metal i f ≡ []
   unfolding tradeIn
-  trade-none (Header m marks) e = refl
+  trade-none (Header m marks form) e = refl
   trade-none (PreviousClose instrument price) e = refl
   trade-none (Trade time instrument price lots) e = trade-other metal i time instrument price lots (eqb-false instrument i e)
   trade-none (Quote time instrument sides bid offer) e = refl
@@ -175,7 +176,7 @@ module _ (metal i : ℕ) where
   -- a field is at most one trade
   trade-one : (f : Field) → length (tradeIn metal i f) ≤ 1
   unfolding tradeIn
-  trade-one (Header m marks) = omega arith
+  trade-one (Header m marks form) = omega arith
   trade-one (PreviousClose instrument price) = omega arith
   trade-one (Trade time instrument price lots) = by-test (counts metal i instrument time)
     where
@@ -185,9 +186,9 @@ module _ (metal i : ℕ) where
   trade-one (Quote time instrument sides bid offer) = omega arith
   trade-one (End count) = omega arith
 
-  trade-range : (f : Field) → Sound 0 f → InRange (tradeIn metal i f)
+  trade-range : (f : Field) → Sound alone f → InRange (tradeIn metal i f)
   unfolding tradeIn
-  trade-range (Header m marks) h = tt
+  trade-range (Header m marks form) h = tt
   trade-range (PreviousClose instrument price) h = tt
   trade-range (Trade time instrument price lots) h = by-test (counts metal i instrument time)
     where
@@ -203,12 +204,12 @@ module _ (metal i : ℕ) where
   trades-few [] = omega arith
   trades-few (f ∷ fs) = simp length-append (omega (arith, trade-one f, trades-few fs))
 
-  pub trades-range : (fs : List Field) → Each (Sound 0) fs → InRange (tradesIn metal i fs)
+  pub trades-range : (fs : List Field) → Each (Sound alone) fs → InRange (tradesIn metal i fs)
   unfolding tradesIn
   trades-range [] h = tt
   trades-range (f ∷ fs) h = range-append (tradeIn metal i f) (tradesIn metal i fs) (trade-range f (h .0)) (trades-range fs (h .1))
 
-  pub total-small : (fs : List Field) (n : ℕ) → Each (Sound 0) fs → length fs ≤ n → Small n (totalOf metal i fs)
+  pub total-small : (fs : List Field) (n : ℕ) → Each (Sound alone) fs → length fs ≤ n → Small n (totalOf metal i fs)
   unfolding totalOf
   total-small fs n h l = sums-small (tradesIn metal i fs) n (trades-range fs h) (omega (arith, trades-few fs))
 
@@ -219,26 +220,30 @@ pub tag-three : (tag : ℕ) (b : List ℕ) {time instrument : ℕ} {price : Pric
 unfolding fieldOf
 tag-three tag b {time} {instrument} {price} {lots} = by-one (eqb tag 1)
   where
-    by-four : (x : Bool) → cond x (quoteOf b) (endOf b) ≡ Trade time instrument price lots → tag ≡ 3
-    by-four true e = clash cc
-    by-four false e = clash cc
+    by-five : (x : Bool) → cond x (endOf b) (longHeaderOf b) ≡ Trade time instrument price lots → tag ≡ 3
+    by-five true e = clash cc
+    by-five false e = clash cc
 
-    by-three : (x : Bool) → eqb tag 3 ≡ x → cond x (tradeOf b) (cond (eqb tag 4) (quoteOf b) (endOf b)) ≡ Trade time instrument price lots → tag ≡ 3
+    by-four : (x : Bool) → cond x (quoteOf b) (cond (eqb tag 5) (endOf b) (longHeaderOf b)) ≡ Trade time instrument price lots → tag ≡ 3
+    by-four true e = clash cc
+    by-four false e = by-five (eqb tag 5) e
+
+    by-three : (x : Bool) → eqb tag 3 ≡ x → cond x (tradeOf b) (cond (eqb tag 4) (quoteOf b) (cond (eqb tag 5) (endOf b) (longHeaderOf b))) ≡ Trade time instrument price lots → tag ≡ 3
     by-three true k e = eqb-true tag 3 k
     by-three false k e = by-four (eqb tag 4) e
 
-    by-two : (x : Bool) → cond x (previousOf b) (cond (eqb tag 3) (tradeOf b) (cond (eqb tag 4) (quoteOf b) (endOf b))) ≡ Trade time instrument price lots → tag ≡ 3
+    by-two : (x : Bool) → cond x (previousOf b) (cond (eqb tag 3) (tradeOf b) (cond (eqb tag 4) (quoteOf b) (cond (eqb tag 5) (endOf b) (longHeaderOf b)))) ≡ Trade time instrument price lots → tag ≡ 3
     by-two true e = clash cc
     by-two false e = by-three (eqb tag 3) refl e
 
-    by-one : (x : Bool) → cond x (headerOf b) (cond (eqb tag 2) (previousOf b) (cond (eqb tag 3) (tradeOf b) (cond (eqb tag 4) (quoteOf b) (endOf b)))) ≡ Trade time instrument price lots → tag ≡ 3
+    by-one : (x : Bool) → cond x (headerOf b) (cond (eqb tag 2) (previousOf b) (cond (eqb tag 3) (tradeOf b) (cond (eqb tag 4) (quoteOf b) (cond (eqb tag 5) (endOf b) (longHeaderOf b))))) ≡ Trade time instrument price lots → tag ≡ 3
     by-one true e = clash cc
     by-one false e = by-two (eqb tag 2) e
 
 module _ (metal i : ℕ) (s : List ℕ) where
   trade-bytes : (at : ℕ) (f : Field) (next : ℕ) → shapeAt s at ≡ gives f next → 14 * length (tradeIn metal i f) + at ≤ next
   unfolding tradeIn
-  trade-bytes at (Header m marks) next e = omega (arith, shape-grows s at e .0)
+  trade-bytes at (Header m marks form) next e = omega (arith, shape-grows s at e .0)
   trade-bytes at (PreviousClose instrument price) next e = omega (arith, shape-grows s at e .0)
   trade-bytes at (Trade time instrument price lots) next e =
       let g = shaped s at (Trade time instrument price lots) next e in
@@ -285,7 +290,7 @@ pub totals-none : (metal : ℕ) → totalsOf metal [] ≡ noTrades
 unfolding totalsOf totalOf tradesIn lotsIn valueIn
 totals-none metal = refl
 
-pub totals-small : (metal : ℕ) (fs : List Field) (n : ℕ) → Each (Sound 0) fs → length fs ≤ n → AllSmall n (totalsOf metal fs)
+pub totals-small : (metal : ℕ) (fs : List Field) (n : ℕ) → Each (Sound alone) fs → length fs ≤ n → AllSmall n (totalsOf metal fs)
 totals-small metal fs n h l i = by-place (decLt i 12)
   where
     by-place : Dec (i < 12) → Small n (getD (totalsOf metal fs) i none)

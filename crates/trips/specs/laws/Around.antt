@@ -12,7 +12,7 @@ use lib.ListN.{length, getD, take, drop, length-drop, take-append-drop}
 use lib.Seq.{length-take-le, drop-drop}
 use Rattle.wire.specs.Big.{Bytes}
 use Rattle.field.specs.declared.Field.{Field}
-use Rattle.field.specs.Judging.{fine}
+use Rattle.field.specs.Judging.{fine, alone}
 use Rattle.field.specs.Layout.{tagOf, bodyBytes, fieldBytes}
 use Rattle.field.specs.Said.{Said, gives, refuses}
 use Rattle.field.specs.Reading.{bodyAt, shapeAt, readField, bodyOf}
@@ -41,7 +41,7 @@ pub written-read : (b : List ℕ) (at : ℕ) (f : Field) → Counted f → write
 written-read b at f c e =
     let may = may-write (length b) at f e in
     rw (written-fine b at f e .1)
-    (read-judged _ at f _ (over-shape b at f (omega (arith, may .room)) (held 0 f c (may .right)))
+    (read-judged _ at f _ (over-shape b at f (omega (arith, may .room)) (held alone f c (may .right)))
     ∙ settled-fine _ at f _ (may .right))
 
 -- and the body handed back is the field's own

@@ -1,17 +1,15 @@
 -- Values that earn no number fit their bytes. Assumes nothing.
-use Prim.Native.Nat.{ℕ, _≤_}
+use Prim.Native.Nat.{_≤_}
 use mathlib.Core.Path.{_≡_}
 use native.Mathlib.Omega.{arith}
-use borrow.Author.Tests.{leb-true}
-use lib.Dec.{leb}
 use lib.IntN.{ℤ, pos, negsuc, natAbs}
 use lib.Signed.{mag}
 use Rattle.field.specs.declared.Price.{Price}
+use Rattle.field.specs.declared.Before.{Before}
 use Rattle.field.specs.declared.Field.{Field}
 use Rattle.field.specs.declared.Field.the-variants.{Header, PreviousClose, Trade, Quote, End}
-use Rattle.field.specs.Judging.{fine, judge}
-use Rattle.field.specs.laws.Field.{both-true}
-use Rattle.field.specs.laws.Sound.{Sound, sound, price-size, sides-size}
+use Rattle.field.specs.Judging.{fine, thirdOf, judge}
+use Rattle.field.specs.laws.Sound.{Sound, sound, marks-range, price-size, sides-size}
 use Rattle.trips.specs.Held.{HeldPrice, Held, Counted}
 
 -- a price of so few cents fits
@@ -22,15 +20,15 @@ small-held price h = record { sfits = omega (arith, mag-natAbs (price .cents)) }
     mag-natAbs (pos n) = omega arith
     mag-natAbs (negsuc n) = omega arith
 
--- values that earn no number fit their bytes, whatever the time before them
-pub held : (least : ℕ) (f : Field) → Counted f → judge least f ≡ fine → Held f
-held least f c e = by-field f c (sound least f e)
+-- values that earn no number fit their bytes, whatever came before them
+pub held : (before : Before) (f : Field) → Counted f → judge before f ≡ fine → Held f
+held before f c e = by-field f c (sound before f e)
   where
-    by-field : (f : Field) → Counted f → Sound least f → Held f
-    by-field (Header metal marks) c h = omega (arith, leb-true marks 2047 (both-true _ (leb marks 2047) h .1))
+    by-field : (f : Field) → Counted f → Sound before f → Held f
+    by-field (Header metal marks form) c h = omega (arith, marks-range metal marks (thirdOf form) h .0)
     by-field (PreviousClose instrument price) c h = small-held price (price-size instrument price (h .1))
     by-field (Trade time instrument price lots) c h = (omega (arith, h .stamp .in-day), small-held price (price-size instrument price (h .price-in)), omega (arith, h .most))
     by-field (Quote time instrument sides bid offer) c h =
-        let size = sides-size least time instrument sides bid offer h in
+        let size = sides-size before time instrument sides bid offer h in
         (omega (arith, h .stamp .in-day), small-held bid (size .0), small-held offer (size .1))
     by-field (End count) c h = c

@@ -13,6 +13,7 @@ use lib.ListN.{length, getD, take, drop, length-append}
 use lib.Seq.{getD-append-add, getD-append-seam, drop-append-add, take-at, drop-drop, take-add}
 use Rattle.wire.specs.Big.{be2At, bytes2, Bytes}
 use Rattle.wire.specs.laws.Trips.{be2-bytes2, bytes2-at, bytes-part}
+use Rattle.field.specs.declared.Form.the-variants.{Short, Long}
 use Rattle.field.specs.declared.Field.{Field}
 use Rattle.field.specs.declared.Field.the-variants.{Header, PreviousClose, Trade, Quote, End}
 use Rattle.field.specs.Judging.{both}
@@ -29,7 +30,8 @@ use Rattle.trips.specs.laws.Bodies.{values-back, row-part, sized, bytes-
 -- a field's tag is one
 pub tag-right : (f : Field) → tagRight (tagOf f) ≡ true
 unfolding tagOf both
-tag-right (Header metal marks) = refl
+tag-right (Header metal marks Short) = refl
+tag-right (Header metal marks (Long third)) = refl
 tag-right (PreviousClose instrument price) = refl
 tag-right (Trade time instrument price lots) = refl
 tag-right (Quote time instrument sides bid offer) = refl

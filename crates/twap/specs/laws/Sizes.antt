@@ -10,7 +10,7 @@ use lib.IntN.{natAbs}
 use Rattle.field.specs.declared.Price.{Price}
 use Rattle.field.specs.declared.Field.{Field}
 use Rattle.field.specs.declared.Field.the-variants.{Header, PreviousClose, Trade, Quote, End}
-use Rattle.field.specs.Judging.{hasBid, hasOffer}
+use Rattle.field.specs.Judging.{alone, hasBid, hasOffer}
 use Rattle.field.specs.laws.Sound.{Sound, price-size, sides-size}
 use Rattle.market.specs.Market.{windowLength}
 use Rattle.market.specs.laws.Rows.{window-length}
@@ -49,21 +49,21 @@ small-else Absent p h k = k
 small-else (At q) p h k = h
 
 -- a field whose values are in their ranges keeps it so
-small-taken : (i : ℕ) (s : Indicator) (f : Field) → SmallState s → Sound 0 f → SmallState (taken i s f)
+small-taken : (i : ℕ) (s : Indicator) (f : Field) → SmallState s → Sound alone f → SmallState (taken i s f)
 unfolding taken
-small-taken i s (Header metal marks) h k = h
+small-taken i s (Header metal marks form) h k = h
 small-taken i s (PreviousClose instrument price) h k =
     small-pick (eqb instrument i) (afterClose s price) s (record { reference = small-else (s .reference) price (h .reference) (price-size instrument price (k .1)); bid = h .bid; offer = h .offer }) h
 small-taken i s (Trade time instrument price lots) h k =
     small-pick (eqb instrument i) (afterTrade s price) s (record { reference = price-size instrument price (k .price-in); bid = h .bid; offer = h .offer }) h
 small-taken i s (Quote time instrument sides bid offer) h k =
-    let z = sides-size 0 time instrument sides bid offer k in
+    let z = sides-size alone time instrument sides bid offer k in
     let new = afterQuote s sides bid offer in
     small-pick (eqb instrument i) new s (record { reference = h .reference; bid = small-side (hasBid sides) bid (z .0); offer = small-side (hasOffer sides) offer (z .1) }) h
 small-taken i s (End count) h k = h
 
 -- so do all fields of a list
-small-after : (i t : ℕ) (s : Indicator) (fs : List Field) → SmallState s → Each (Sound 0) fs → SmallState (afterFrom i t s fs)
+small-after : (i t : ℕ) (s : Indicator) (fs : List Field) → SmallState s → Each (Sound alone) fs → SmallState (afterFrom i t s fs)
 unfolding afterFrom
 small-after i t s [] h k = h
 small-after i t s (f ∷ fs) h k =

@@ -13,6 +13,7 @@ use native.Mathlib.Nat.{le-refl}
 use native.Mathlib.Omega.{arith}
 use borrow.Author.Needs.{needs}
 use lib.IntN.{ℤ, pos, natAbs, _+ℤ_}
+use Rattle.field.specs.declared.Form.{Form}
 use Rattle.field.specs.declared.Field.{Field}
 use Rattle.field.specs.declared.Field.the-variants.{Header, PreviousClose, Trade, Quote, End}
 use Rattle.field.specs.declared.Read.{Read}
@@ -20,10 +21,10 @@ use Rattle.field.specs.declared.Read.the-variants as R
 use Rattle.field.specs.Layout.{tagOf}
 use Rattle.field.specs.Said.{readSays}
 use Rattle.field.specs.Reading.{shapeAt}
-use Rattle.admit.specs.laws.Admitting.{timeFrom}
+use Rattle.admit.specs.laws.Admitting.{timeFrom, Later}
 use Rattle.market.specs.Market.{windowLength}
 use Rattle.market.specs.laws.Rows.{window-length}
-use Rattle.sheet.specs.Fields.{fieldsAt, fieldsOf}
+use Rattle.sheet.specs.Fields.{fieldsAt, fieldsOf, Each}
 use Rattle.sheet.specs.laws.Walk.{fields-gave, fields-stop, read-gave, read-stopped, less-read}
 use Rattle.sheet.specs.laws.Accepted.{Without, Closes, accepted-rises, accepted-header, accepted-closes}
 use Rattle.sheet.specs.laws.Accepted as times
@@ -40,36 +41,36 @@ use Rattle.twap.specs.laws.Sizes.{part-size}
 -- ---- the fields of an accepted sheet rise
 
 -- records alone, behind the previous closes
-records-rise : (t : ℕ) (fs : List Field) → times.Rising t fs → Without 1 fs → Without 2 fs → Rising t fs
+records-rise : (t : ℕ) (fs : List Field) → times.Rising t fs → Each Later fs → Without 2 fs → Rising t fs
 unfolding timeFrom tagOf
 records-rise t [] r h p = tt
-records-rise t (Header metal marks ∷ fs) r h p = absurd (h .0 refl)
+records-rise t (Header metal marks form ∷ fs) r h p = absurd (h .0)
 records-rise t (PreviousClose instrument price ∷ fs) r h p = absurd (p .0 refl)
 records-rise t (Trade time instrument price lots ∷ fs) r h p = (r .0, records-rise time fs (r .1) (h .1) (p .1))
 records-rise t (Quote time instrument sides bid offer ∷ fs) r h p = (r .0, records-rise time fs (r .1) (h .1) (p .1))
 records-rise t (End count ∷ fs) r h p = records-rise t fs (r .1) (h .1) (p .1)
 
 -- previous closes, then records
-closes-rise : (least : ℕ) (fs : List Field) → times.Rising 0 fs → Without 1 fs → Closes least fs → Rising 0 fs
+closes-rise : (least : ℕ) (fs : List Field) → times.Rising 0 fs → Each Later fs → Closes least fs → Rising 0 fs
 unfolding timeFrom tagOf
 closes-rise least [] r h p = tt
-closes-rise least (Header metal marks ∷ fs) r h p = absurd (h .0 refl)
+closes-rise least (Header metal marks form ∷ fs) r h p = absurd (h .0)
 closes-rise least (PreviousClose instrument price ∷ fs) r h p = (refl, closes-rise (instrument + 1) fs (r .1) (h .1) (p .1))
 closes-rise least (Trade time instrument price lots ∷ fs) r h p = (r .0, records-rise time fs (r .1) (h .1) p)
 closes-rise least (Quote time instrument sides bid offer ∷ fs) r h p = (r .0, records-rise time fs (r .1) (h .1) p)
 closes-rise least (End count ∷ fs) r h p = records-rise 0 fs (r .1) (h .1) p
 
 -- a header, then those
-header-rises : (metal marks : ℕ) (fs : List Field) → times.Rising 0 (Header metal marks ∷ fs) → Without 1 fs → Closes 0 (Header metal marks ∷ fs) → Rising 0 (Header metal marks ∷ fs)
+header-rises : (metal marks : ℕ) (form : Form) (fs : List Field) → times.Rising 0 (Header metal marks form ∷ fs) → Each Later fs → Closes 0 (Header metal marks form ∷ fs) → Rising 0 (Header metal marks form ∷ fs)
 unfolding timeFrom
-header-rises metal marks fs r h p = (refl, closes-rise 0 fs (r .1) h p)
+header-rises metal marks form fs r h p = (refl, closes-rise 0 fs (r .1) h p)
 
 pub accepted-rising : (s : List ℕ) → Accepted s → Rising 0 (fieldsOf s)
 accepted-rising s a =
     let h = accepted-header s (a .day) (a .judged) in
     let r = subst (times.Rising 0) (h .is) (accepted-rises s (a .day) (a .judged)) in
     let p = subst (Closes 0) (h .is) (accepted-closes s (a .day) (a .judged)) in
-    subst⁻¹ (Rising 0) (h .is) (header-rises (a .day .metal) (a .day .marks) (h .rest) r (h .alone) p)
+    subst⁻¹ (Rising 0) (h .is) (header-rises (a .day .metal) (a .day .marks) (a .day .form) (h .rest) r (h .only) p)
 
 -- ---- the walk
 
@@ -84,7 +85,7 @@ stands-first i t s a e = rw e (record { reached = reached-later i (fieldsOf s) 0
 
 -- behind a field the rest rises
 rest-rises : (f : Field) (fs : List Field) → Rising 0 (f ∷ fs) → Rising 0 fs
-rest-rises (Header metal marks) fs r = r .1
+rest-rises (Header metal marks form) fs r = r .1
 rest-rises (PreviousClose instrument price) fs r = r .1
 rest-rises (Trade time instrument price lots) fs r = rising-low 0 time fs zero-le (r .1)
 rest-rises (Quote time instrument sides bid offer) fs r = rising-low 0 time fs zero-le (r .1)
@@ -92,7 +93,7 @@ rest-rises (End count) fs r = r
 
 -- from a field on none counts before it
 stamp-rises : (f : Field) (fs : List Field) → Rising 0 (f ∷ fs) → Rising (stamp f) (f ∷ fs)
-stamp-rises (Header metal marks) fs r = r
+stamp-rises (Header metal marks form) fs r = r
 stamp-rises (PreviousClose instrument price) fs r = r
 stamp-rises (Trade time instrument price lots) fs r = (le-refl time, r .1)
 stamp-rises (Quote time instrument sides bid offer) fs r = (le-refl time, r .1)

@@ -97,11 +97,11 @@ fn tape_row_of(line: &str) -> Option<TapeRow> {
     })
 }
 
-/// The lines of the table of tapes, which has 400 lines or more.
+/// The lines of the table of tapes, which has 500 lines or more.
 pub fn tape_rows() -> Vec<TapeRow> {
     let text = String::from_utf8(file("hosts/edges/tapes.txt")).expect("a text");
     let rows: Vec<TapeRow> = text.lines().filter_map(tape_row_of).collect();
-    assert!(rows.len() >= 400, "tapes has {} lines", rows.len());
+    assert!(rows.len() >= 500, "tapes has {} lines", rows.len());
     rows
 }
 
@@ -113,8 +113,17 @@ pub fn filled(length: usize) -> Vec<u8> {
 /// A Nickel sheet of trades of 10,000 lots of 3M at 1,800,000 in the first millisecond of its window, and quotes without sides: 6 bytes
 /// for the header, 14 a trade, 17 a quote, 7 for the end.
 pub fn nickel_of(trades: usize, quotes: usize) -> Vec<u8> {
+    behind_header(&[1, 0, 3, 1, 0, 0], trades, quotes)
+}
+
+/// The same by a long header, of 7 bytes, with this third value.
+pub fn long_nickel_of(third: u8, trades: usize, quotes: usize) -> Vec<u8> {
+    behind_header(&[6, 0, 4, 1, 0, 0, third], trades, quotes)
+}
+
+fn behind_header(header: &[u8], trades: usize, quotes: usize) -> Vec<u8> {
     let time = 58_500_000_u32.to_be_bytes();
-    let mut sheet = vec![1, 0, 3, 1, 0, 0];
+    let mut sheet = header.to_vec();
     for _ in 0..trades {
         sheet.extend([3, 0, 11]);
         sheet.extend(time);
@@ -139,7 +148,16 @@ pub fn longer(sheet: &[u8]) -> Vec<u8> {
 
 /// The text of the sheet of `nickel_of`.
 pub fn nickel_tape_of(trades: usize, quotes: usize) -> Vec<u8> {
+    behind_line("METAL,Nickel,0\n", trades, quotes)
+}
+
+/// The text of the sheet of `long_nickel_of`.
+pub fn long_nickel_tape_of(third: u8, trades: usize, quotes: usize) -> Vec<u8> {
+    behind_line(&format!("METAL,Nickel,0,{third}\n"), trades, quotes)
+}
+
+fn behind_line(metal: &str, trades: usize, quotes: usize) -> Vec<u8> {
     let trades = "58500000,3M,TRADE,18000.00,10000\n".repeat(trades);
     let quotes = "58500000,3M,QUOTE,-,-\n".repeat(quotes);
-    format!("METAL,Nickel,0\n{trades}{quotes}").into_bytes()
+    format!("{metal}{trades}{quotes}").into_bytes()
 }

@@ -52,10 +52,10 @@ const fn bytes(name: &'static str, work: fn(&mut Random, &mut Vec<u8>)) -> Damag
     Damage { name, work: Work::Bytes(work) }
 }
 
-pub static DAMAGES: [Damage; 57] = [
+pub static DAMAGES: [Damage; 61] = [
     items("leading zero", numerals::leading_zero),
     items("plus sign", numerals::plus_sign),
-    items("minus on time, lots or marks", numerals::minus_sign),
+    items("minus on a number", numerals::minus_sign),
     items("negative zero", numerals::negative_zero),
     items("the other sign", numerals::turned_sign),
     items("decimals", numerals::decimals),
@@ -64,9 +64,10 @@ pub static DAMAGES: [Damage; 57] = [
     items("empty numeral", numerals::empty_item),
     items("no digit", numerals::no_digit),
     items("sign alone", numerals::sign_alone),
-    items("thirty digits", numerals::thirty_digits),
+    items("many digits", numerals::many_digits),
     items("past its width", numerals::past_its_width),
     items("marks out of range", values::marks),
+    items("third value out of range", values::third),
     items("time out of range", values::time),
     items("price out of range", values::price),
     items("lots out of range", values::lots),
@@ -83,7 +84,10 @@ pub static DAMAGES: [Damage; 57] = [
     items("item missing", names::dropped),
     items("item twice", names::doubled),
     items("item of another line", names::foreign),
-    items("third value of METAL", names::third_value),
+    items("third value malformed", names::third_value),
+    items("fourth value", names::fourth_value),
+    items("another third value", names::other_third),
+    items("instrument barred", names::barred),
     items("METAL later", lines::metal_later),
     items("METAL twice", lines::metal_twice),
     items("METAL missing", lines::metal_missing),

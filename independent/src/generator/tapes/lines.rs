@@ -20,10 +20,14 @@ pub(super) fn metal_later(random: &mut Random, parts: &mut Parts) {
     parts.lines.insert(later.min(parts.count()), first);
 }
 
-/// A second header's line, at times with marks out of range or malformed.
+/// A second header's line of either form, at times with a value out of range or
+/// malformed.
 pub(super) fn metal_twice(random: &mut Random, parts: &mut Parts) {
     let first = parts.lines[0].clone();
-    let other = random.pick(&["METAL,Zinc,0", "METAL,Lead,2048", "METAL,Tin,0", "METAL,Lead,00", "METAL"]);
+    let good = ["METAL,Zinc,0", "METAL,Zinc,0,0", "METAL,Lead,1,2"];
+    let bad =
+        ["METAL,Lead,2048", "METAL,Lead,0,3", "METAL,Tin,0", "METAL,Lead,00", "METAL,Lead,0,01", "METAL"];
+    let other = if random.chance(50) { random.pick(&good) } else { random.pick(&bad) };
     let second = if random.chance(60) { first } else { line(other) };
     insert_behind_first(random, parts, second);
 }

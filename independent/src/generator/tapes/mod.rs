@@ -13,13 +13,13 @@ mod values;
 pub use damage::{Damage, DAMAGES};
 pub use sized::sized_tape;
 
-use crate::draft::{close, header, quote, trade};
-use crate::field::{Field, BID, OFFER};
-use crate::generator::scene::Scene;
+use crate::draft::{close, quote, trade};
+use crate::field::{Field, Header, BID, OFFER};
+use crate::generator::scene::{any_third, Scene};
 use crate::random::Random;
 use crate::tables::{
-    metal_row, ALL_MARKS, GREATEST_LOTS, GREATEST_OUTRIGHT, GREATEST_SPREAD, INSTRUMENT_NAMES, LAST_TIME,
-    LEAST_OUTRIGHT, METALS,
+    allowed_instruments, metal_row, ALL_MARKS, GREATEST_LOTS, GREATEST_OUTRIGHT, GREATEST_SPREAD,
+    INSTRUMENT_NAMES, LAST_TIME, LEAST_OUTRIGHT, METALS,
 };
 
 #[derive(Clone, Copy, Debug, PartialEq, Eq)]
@@ -63,21 +63,26 @@ fn day_of_edges(random: &mut Random) -> Vec<Field> {
     let one = 1 << random.below(11);
     let any = random.draw() as u16 & ALL_MARKS;
     let marks = random.pick(&[0, 1, 9, 10, 99, 100, 1_000, 1_024, ALL_MARKS, one, any]);
-    let mut fields = vec![header(random.between(1, METALS.len() as i64) as u8, marks)];
+    let metal = random.between(1, METALS.len() as i64) as u8;
+    let third = any_third(random);
+    let allowed = allowed_instruments(third);
+    let mut fields = vec![Field::Header(Header { metal, marks, third })];
     let closes = random.pick(&[0, 30, 100]);
-    for instrument in 0..12 {
+    for instrument in &allowed {
         if random.chance(closes) {
-            fields.push(close(instrument, edge_price(random, instrument)));
+            fields.push(close(*instrument, edge_price(random, *instrument)));
         }
     }
     let mut times: Vec<u32> = (0..random.below(24)).map(|_| edge_time(random)).collect();
     times.sort_unstable();
-    fields.extend(times.into_iter().map(|time| edge_record(random, time)));
+    for time in times {
+        let instrument = random.pick(&allowed);
+        fields.push(edge_record(random, time, instrument));
+    }
     fields
 }
 
-fn edge_record(random: &mut Random, time: u32) -> Field {
-    let instrument = random.below(12) as u8;
+fn edge_record(random: &mut Random, time: u32, instrument: u8) -> Field {
     let price = edge_price(random, instrument);
     let other = edge_price(random, instrument);
     if random.chance(50) {
@@ -126,7 +131,8 @@ fn line_of(field: &Field) -> String {
     match field {
         Field::Header(header) => {
             let name = metal_row(header.metal).map_or("", |metal| metal.name);
-            format!("METAL,{name},{}\n", header.marks)
+            let third = header.third.map_or(String::new(), |third| format!(",{third}"));
+            format!("METAL,{name},{}{third}\n", header.marks)
         }
         Field::PreviousClose(close) => format!("PREV,{},{}\n", named(close.instrument), dollars(close.price)),
         Field::Trade(trade) => {

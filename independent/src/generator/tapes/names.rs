@@ -1,8 +1,8 @@
 //! Unknown names and words, and items where others belong.
 
-use super::parts::{kind_of, Kind, Line, Parts};
+use super::parts::{kind_of, line, Kind, Line, Parts};
 use crate::random::Random;
-use crate::tables::{INSTRUMENT_NAMES, METALS};
+use crate::tables::{barred_instruments, INSTRUMENT_NAMES, METALS};
 
 /// A line and the place of its instrument's name, if it has one.
 fn instrument_place(line: &Line) -> Option<usize> {
@@ -118,11 +118,48 @@ pub(super) fn foreign(random: &mut Random, parts: &mut Parts) {
     parts.lines[to][place] = item;
 }
 
-/// A third value of the header's line, or none but the name.
+/// A third value of the header's line that is no number, or the marks gone too.
 pub(super) fn third_value(random: &mut Random, parts: &mut Parts) {
-    let line = &mut parts.lines[0];
-    match random.below(4) {
-        0 => line.truncate(2),
-        _ => line.push(random.pick(&["0", "1", "2", "3", ""]).as_bytes().to_vec()),
+    let words = ["01", "00", "+1", "-1", "-0", "1.0", "1.", "", "-", "1 ", "M3", "one", "1e0", "0x1"];
+    let word = random.pick(&words);
+    parts.set_third(Some(word.as_bytes().to_vec()));
+    if random.chance(15) {
+        parts.lines[0].truncate(2);
+    }
+}
+
+/// A fourth value of the header's line.
+pub(super) fn fourth_value(random: &mut Random, parts: &mut Parts) {
+    let third = random.pick(&["0", "1", "2", "3"]);
+    parts.set_third(Some(third.as_bytes().to_vec()));
+    let fourth = random.pick(&["0", "1", "2", ""]);
+    parts.lines[0].push(fourth.as_bytes().to_vec());
+}
+
+/// Another third value, or none: what the lines behind it say is then barred, or
+/// is not.
+pub(super) fn other_third(random: &mut Random, parts: &mut Parts) {
+    let value = random.pick(&[None, Some("0"), Some("1"), Some("1"), Some("2"), Some("2")]);
+    parts.set_third(value.map(|value| value.as_bytes().to_vec()));
+}
+
+/// A header that says 1 or 2, and a line on an instrument that it bars: the first
+/// close, or a record in the place and at the time of another.
+pub(super) fn barred(random: &mut Random, parts: &mut Parts) {
+    let third = random.pick(&[1, 2]);
+    parts.set_third(Some(vec![b'0' + third]));
+    let instrument = random.pick(barred_instruments(Some(third)));
+    let name = INSTRUMENT_NAMES[usize::from(instrument)];
+    let records = parts.records();
+    match records.get(random.index(records.len())) {
+        Some(place) if random.chance(70) => {
+            let time = String::from_utf8_lossy(&parts.lines[*place][0]).into_owned();
+            let rest = random.pick(&["TRADE,0.00,1", "TRADE,0.00,0", "QUOTE,-,-", "QUOTE,0.01,0.00"]);
+            parts.lines.insert(*place, line(&format!("{time},{name},{rest}")));
+        }
+        _ => {
+            let price = random.pick(&["0.00", "100000.00"]);
+            parts.lines.insert(1.min(parts.count()), line(&format!("PREV,{name},{price}")));
+        }
     }
 }

@@ -3,8 +3,8 @@
 use super::parts::{Item, Kind, Parts};
 use crate::random::Random;
 
-const ALL: [Kind; 4] = [Kind::Marks, Kind::Time, Kind::Price, Kind::Lots];
-const UNSIGNED: [Kind; 3] = [Kind::Marks, Kind::Time, Kind::Lots];
+const ALL: [Kind; 5] = [Kind::Marks, Kind::Third, Kind::Time, Kind::Price, Kind::Lots];
+const UNSIGNED: [Kind; 4] = [Kind::Marks, Kind::Third, Kind::Time, Kind::Lots];
 
 /// Changes a numeral of one of these kinds.
 fn change(random: &mut Random, parts: &mut Parts, kinds: &[Kind], by: fn(&mut Random, Kind, &mut Item)) {
@@ -119,15 +119,15 @@ pub(super) fn sign_alone(random: &mut Random, parts: &mut Parts) {
     }
 }
 
-/// Thirty digits, of a price with two decimals behind them.
-pub(super) fn thirty_digits(random: &mut Random, parts: &mut Parts) {
+/// Thirty digits or a hundred, of a price with two decimals behind them.
+pub(super) fn many_digits(random: &mut Random, parts: &mut Parts) {
     change(random, parts, &ALL, |random, kind, item| {
         item.clear();
         if kind == Kind::Price && random.chance(40) {
             item.push(b'-');
         }
         item.push(random.between(b'1'.into(), b'9'.into()) as u8);
-        for _ in 0..29 {
+        for _ in 1..random.pick(&[30, 100]) {
             item.push(random.between(b'0'.into(), b'9'.into()) as u8);
         }
         if kind == Kind::Price {
@@ -136,15 +136,29 @@ pub(super) fn thirty_digits(random: &mut Random, parts: &mut Parts) {
     });
 }
 
-/// Numbers around 2^16, 2^32 and 2^64, and prices around 2^31, 2^32 and 2^64
-/// cents: cut to fewer bits most of them would be in range.
+/// Numbers around 2^8, 2^16, 2^32 and 2^64, and prices around 2^31, 2^32 and
+/// 2^64 cents: cut to fewer bits most of them would be in range.
 pub(super) fn past_its_width(random: &mut Random, parts: &mut Parts) {
     change(random, parts, &ALL, |random, kind, item| match kind {
         Kind::Price => word(random, item, &WIDE_PRICES),
+        Kind::Third => word(random, item, &WIDE_BYTES),
         Kind::Time => word(random, item, &WIDE_NUMBERS[4..]),
         Kind::Marks | Kind::Lots => word(random, item, &WIDE_NUMBERS),
     });
 }
+
+const WIDE_BYTES: [&str; 10] = [
+    "255",
+    "256",
+    "257",
+    "258",
+    "65536",
+    "65537",
+    "4294967296",
+    "4294967298",
+    "18446744073709551616",
+    "18446744073709551617",
+];
 
 const WIDE_NUMBERS: [&str; 13] = [
     "65535",

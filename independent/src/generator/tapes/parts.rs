@@ -9,6 +9,8 @@ pub(super) type Line = Vec<Item>;
 #[derive(Clone, Copy, Debug, PartialEq, Eq)]
 pub(super) enum Kind {
     Marks,
+    /// The byte of a long header.
+    Third,
     Time,
     Price,
     Lots,
@@ -40,6 +42,13 @@ impl Parts {
     /// A line that has its line feed; the last one where none has.
     pub fn any_line(&self, random: &mut Random) -> usize {
         random.index(self.count())
+    }
+
+    /// Puts a third value behind the first line's two, or takes all behind them
+    /// away.
+    pub fn set_third(&mut self, value: Option<Item>) {
+        self.lines[0].truncate(3);
+        self.lines[0].extend(value);
     }
 
     /// The places of the trades and quotes.
@@ -78,6 +87,7 @@ pub(super) fn kind_of(line: &Line, item: usize) -> Option<Kind> {
     let word = |place: usize| line.get(place).map_or(&b""[..], Vec::as_slice);
     match (word(0), word(2), item) {
         (b"METAL", _, 2) => Some(Kind::Marks),
+        (b"METAL", _, 3) => Some(Kind::Third),
         (b"PREV", _, 2) => Some(Kind::Price),
         (_, b"TRADE" | b"QUOTE", 0) => Some(Kind::Time),
         (_, b"TRADE", 3) => Some(Kind::Price),

@@ -9,6 +9,7 @@ use crate::tables::{GREATEST_SPREAD, LAST_TIME};
 fn at_its_end(random: &mut Random, kind: Kind, outright: bool) -> Item {
     let words: &[&str] = match kind {
         Kind::Marks => &["2047", "2048", "2049", "4095", "4096", "32768", "65535"],
+        Kind::Third => &["2", "3", "3", "4", "9", "10", "255"],
         Kind::Time => &["86400000", "86400001", "99999999", "100000000", "4294967295"],
         Kind::Lots => &["0", "0", "10000", "10001", "10002", "32768", "65535"],
         Kind::Price if outright => &["0.00", "-0.01", "1000000.00", "1000000.01", "999999.99", "-1.00"],
@@ -30,6 +31,12 @@ fn out_of_range(random: &mut Random, parts: &mut Parts, kind: Kind) {
 
 pub(super) fn marks(random: &mut Random, parts: &mut Parts) {
     out_of_range(random, parts, Kind::Marks);
+}
+
+/// The third value of a METAL line, of one that has none too.
+pub(super) fn third(random: &mut Random, parts: &mut Parts) {
+    let value = at_its_end(random, Kind::Third, false);
+    parts.set_third(Some(value));
 }
 
 pub(super) fn time(random: &mut Random, parts: &mut Parts) {

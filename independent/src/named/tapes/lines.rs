@@ -76,11 +76,6 @@ fn spaces() -> Vec<NamedTape> {
 fn more_items() -> Vec<NamedTape> {
     vec![
         refused("H1 a comma behind the marks", "METAL,Copper,0,\n", 17, 1),
-        refused("H11 a third value 0", "METAL,Copper,0,0\n", 17, 1),
-        refused("H11 Nickel with a third value 0", "METAL,Nickel,0,0\n", 17, 1),
-        refused("H11 a third value 1", "METAL,Nickel,0,1\n", 17, 1),
-        refused("H11 a third value 2 and marks out of range", "METAL,Nickel,2048,2\n", 17, 1),
-        second_refused("H11 a third value in a second METAL line", "METAL,Nickel,0,0", 17),
         second_refused("H1 a comma behind a close", "PREV,3M,1.00,", 17),
         second_refused("H1 lots behind a close", "PREV,3M,1.00,5", 17),
         second_refused("H1 a comma behind a trade", "5,M3-3M,TRADE,0.00,1,", 17),

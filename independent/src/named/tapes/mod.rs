@@ -8,6 +8,7 @@ mod names;
 mod order;
 mod room;
 mod sheets;
+mod third;
 mod values;
 
 use crate::draft::{ended_sheet, header};
@@ -35,6 +36,23 @@ PREV,Cash-M1,-2.50
 58380000,M1-M2,QUOTE,-1.10,-
 58500000,3M,TRADE,18000.40,3
 58560000,3M,TRADE,18001.00,3
+";
+
+/// The Copper day on which 3M is M3 as text.
+pub const THIRD_WEDNESDAY_TAPE: &str = "\
+METAL,Copper,0,1
+PREV,M2-M3,-4.00
+PREV,Cash-M1,-3.10
+43200000,Cash-M1,QUOTE,-,-3.20
+60020000,M3-M4,TRADE,-15.00,5
+60060000,M2-M3,QUOTE,-3.90,-3.70
+60080000,M1-M3,TRADE,-7.60,4
+60100000,M1-M4,TRADE,-21.00,2
+60150000,Cash-M1,QUOTE,-3.30,-3.00
+60180000,M2-M3,TRADE,-3.90,3
+60240000,M3-M4,TRADE,-9.50,2
+60300000,3M,TRADE,7004.00,5
+60420000,3M,TRADE,7000.00,2
 ";
 
 /// The first line of most texts here, and its field.
@@ -79,13 +97,16 @@ pub fn named_tapes() -> Vec<NamedTape> {
     cases.extend(names::cases());
     cases.extend(forms::cases());
     cases.extend(values::cases());
+    cases.extend(third::cases());
     cases.extend(room::cases());
     cases
 }
 
 /// Sheets to be turned into texts.
 pub fn named_untapes() -> Vec<NamedTape> {
-    sheets::cases()
+    let mut cases = sheets::cases();
+    cases.extend(third::sheets());
+    cases
 }
 
 /// Texts of sheets at 1,048,576 bytes and longer ones.

@@ -1,6 +1,8 @@
 //! Texts of the longest sheets and of longer ones, and the room of the buffer.
-//! A header has 6 bytes, a close 8, a trade 14, a quote 17 and an end 7.
+//! A header has 6 bytes, or 7 with a third value, a close 8, a trade 14, a quote
+//! 17 and an end 7.
 
+use super::super::with_byte;
 use super::{case, NamedTape, COPPER, ROOM};
 use crate::draft::{close, ended_sheet, header, quote, trade};
 use crate::field::{Field, Refusal};
@@ -66,19 +68,42 @@ fn behind_the_limit() -> Long {
     long(6, 74_894, 0)
 }
 
+/// The same with a third value 0.
+fn with_third(Long { text, sheet }: Long) -> Long {
+    Long { text: text.replacen(COPPER, "METAL,Copper,0,0\n", 1), sheet: with_byte(&sheet, 0) }
+}
+
+/// 14 and 4 x 8 and 74,895 x 14 bytes: 1,048,576.
+fn third_at_the_limit() -> Long {
+    with_third(long(4, 74_895, 0))
+}
+
 pub(super) fn large_tapes() -> Vec<NamedTape> {
+    let mut cases = limit_tapes();
+    cases.extend(behind_the_limit_tapes());
+    let Long { text, sheet } = third_at_the_limit();
+    let longer = with_third(at_the_limit()).text;
+    cases.push(case("H8 three values and the longest sheet", text.as_bytes(), 1_048_576, Ok(sheet)));
+    cases.push(case(
+        "H8 three values and a byte behind the limit",
+        longer.as_bytes(),
+        usize::MAX,
+        Err((1, 0)),
+    ));
+    cases
+}
+
+fn limit_tapes() -> Vec<NamedTape> {
     let Long { text, sheet } = at_the_limit();
     let text = text.as_bytes();
     let shorter = long(0, 74_897, 0);
-    let mut cases = vec![
+    vec![
         case("H8 74,897 trades", shorter.text.as_bytes(), SHEET_LIMIT, Ok(shorter.sheet)),
         case("H8 74,898 trades", long(0, 74_898, 0).text.as_bytes(), usize::MAX, Err((1, 0))),
         case("H8 a text of the longest sheet, a byte of room short", text, 1_048_575, Err((16, 0))),
         case("H8 a text of the longest sheet, no room", text, 0, Err((16, 0))),
         case("H8 a text of the longest sheet", text, 1_048_576, Ok(sheet)),
-    ];
-    cases.extend(behind_the_limit_tapes());
-    cases
+    ]
 }
 
 /// A bad line comes before 1 wherever it stands, and 1 before 16.
@@ -111,7 +136,11 @@ pub(super) fn large_untapes() -> Vec<NamedTape> {
     let Long { text, sheet } = at_the_limit();
     let needed = text.len();
     let longer = behind_the_limit().sheet;
+    let third = third_at_the_limit();
+    let third_longer = with_third(at_the_limit()).sheet;
     vec![
+        case("H12 the longest sheet of a long header", &third.sheet, third.text.len(), Ok(third.text.into())),
+        case("H12 a long header, a byte behind the limit", &third_longer, usize::MAX, Err((1, 0))),
         case("H12 the longest sheet in a byte less than its text", &sheet, needed - 1, Err((16, 0))),
         case("H12 the longest sheet in no room", &sheet, 0, Err((16, 0))),
         case("H12 the longest sheet", &sheet, needed, Ok(text.into_bytes())),

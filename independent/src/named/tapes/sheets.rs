@@ -62,7 +62,7 @@ fn refused_sheets() -> Vec<NamedTape> {
         refused("H12 the empty sheet", &[], 2, 0),
         refused("H12 the Nickel sheet without its last byte", &nickel_sheet()[..129], 2, 123),
         refused("H12 the Nickel sheet without its end", &nickel_sheet()[..123], 2, 123),
-        refused("H12 a tag 6", &[6, 0, 4, 1, 0, 0, 0, 5, 0, 4, 0, 0, 0, 1], 3, 0),
+        refused("H12 a tag 7", &[7, 0, 4, 1, 0, 0, 0, 5, 0, 4, 0, 0, 0, 1], 3, 0),
         refused("H12 a wrong length", &[1, 0, 4, 1, 0, 0, 0], 4, 0),
         refused("H12 a trade and no header", &ended_sheet(&[trade(0, 1, 0, 1)]), 5, 0),
         refused("H12 a line feed behind the end", &trailing, 5, 13),

@@ -10,8 +10,12 @@ is-within-requires c κs = search needs
 both-requires : tie.Need-both-requires
 both-requires c κs = search needs
 
+both-requires-2 : tie.Need-both-requires-2
+both-requires-2 c κs = search needs
+
 returns : tie.Need-returns
-returns c = c .both .ensures ∙ rw (c .before .is-within .ensures)
+returns c = c .both2 .ensures ∙ rw (c .before .both .ensures, c .before .before .is-within .ensures)
 
 pub header-right-spec : {M : Type 1} → statement M
-header-right-spec = tie.close (tie.spec is-within-requires both-requires returns)
+header-right-spec =
+    tie.close (tie.spec is-within-requires both-requires both-requires-2 returns)

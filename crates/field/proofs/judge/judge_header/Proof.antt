@@ -5,6 +5,9 @@ use borrow.Author.Needs.{needs}
 use Rattle.field.proofs.judge.judge_header.Statement.{statement}
 use Rattle.field.proofs.judge.judge_header.Tie as tie
 
+third-of-requires : tie.Need-third-of-requires
+third-of-requires c κs = search needs
+
 header-right-requires : tie.Need-header-right-requires
 header-right-requires c κs = search needs
 
@@ -13,7 +16,8 @@ unless-requires c κs = search needs
 
 returns : tie.Need-returns
 unfolding judge
-returns c = c .unless .ensures ∙ rw (c .before .header-right .ensures)
+returns c = c .unless .ensures ∙ rw (c .before .header-right .ensures, c .before .before .third-of .ensures)
 
 pub judge-header-spec : {M : Type 1} → statement M
-judge-header-spec = tie.close (tie.spec header-right-requires unless-requires returns)
+judge-header-spec =
+    tie.close (tie.spec third-of-requires header-right-requires unless-requires returns)

@@ -11,13 +11,13 @@ price-right-requires c κs = search needs
 unless-requires : tie.Need-unless-requires
 unless-requires c κs = search needs
 
-unless-requires-2 : tie.Need-unless-requires-2
-unless-requires-2 c κs = search needs
+on-instrument-requires : tie.Need-on-instrument-requires
+on-instrument-requires c κs = search needs
 
 returns : tie.Need-returns
 unfolding judge
-returns c = c .unless2 .ensures ∙ rw (c .before .unless .ensures, c .before .before .price-right .ensures)
+returns c = c .on-instrument .ensures ∙ rw (c .before .unless .ensures, c .before .before .price-right .ensures)
 
 pub judge-previous-spec : {M : Type 1} → statement M
 judge-previous-spec =
-    tie.close (tie.spec price-right-requires unless-requires unless-requires-2 returns)
+    tie.close (tie.spec price-right-requires unless-requires on-instrument-requires returns)

@@ -10,11 +10,12 @@ time-right-requires c κs = search needs
 unless-requires : tie.Need-unless-requires
 unless-requires c κs = search needs
 
-unless-requires-2 : tie.Need-unless-requires-2
-unless-requires-2 c κs = search needs
+on-instrument-requires : tie.Need-on-instrument-requires
+on-instrument-requires c κs = search needs
 
 returns : tie.Need-returns
-returns c = c .unless2 .ensures ∙ rw (c .before .unless .ensures, c .before .before .time-right .ensures)
+returns c = c .on-instrument .ensures ∙ rw (c .before .unless .ensures, c .before .before .time-right .ensures)
 
 pub stamp-spec : {M : Type 1} → statement M
-stamp-spec = tie.close (tie.spec time-right-requires unless-requires unless-requires-2 returns)
+stamp-spec =
+    tie.close (tie.spec time-right-requires unless-requires on-instrument-requires returns)
