@@ -8,6 +8,8 @@ use Rattle.admit.proofs.admit.Reads as admit
 use Rattle.admit.proofs.admit.Kinds as admitK
 use Rattle.admit.proofs.previous_placed.Reads as previous-placed
 use Rattle.admit.proofs.previous_placed.Kinds as previous-placedK
+use Rattle.admit.proofs.after_header.Reads as after-header
+use Rattle.admit.proofs.after_header.Kinds as after-headerK
 use Rattle.admit.proofs.after_previous.Reads as after-previous
 use Rattle.admit.proofs.after_previous.Kinds as after-previousK
 use Rattle.admit.proofs.after_record.Reads as after-record
@@ -21,6 +23,9 @@ admits-once κs a x y s t p q = admit-once p q
 
 pub previous-placed-once : Once 0 previous-placedK.ps previous-placedK.r previous-placed.Post (λ κs x s. x)
 previous-placed-once κs a x y s t p q = once p q
+
+pub after-header-once : Once 0 after-headerK.ps after-headerK.r after-header.Post (λ κs x s. x)
+after-header-once κs a x y s t p q = once p q
 
 pub after-previous-once : Once 0 after-previousK.ps after-previousK.r after-previous.Post (λ κs x s. x)
 after-previous-once κs a x y s t p q = once p q

@@ -173,7 +173,7 @@ pub fn after_record(p: Progress, time: u32) -> Progress
 }
 
 // What is kept behind the header.
-fn after_header(p: Progress, metal: u8, marks: u16, form: Form) -> Progress
+pub fn after_header(p: Progress, metal: u8, marks: u16, form: Form) -> Progress
     requires { ⌜ p .count < 1048576 ⌝ }
     ensures { λ r. ⌜ r ≡ Admitting.afterHeader p metal marks form ⌝ }
 {

@@ -64,8 +64,11 @@ sizeOf tag = 3 + lengthOf tag
 abbrev pub priceAt : List ℕ → ℕ → Price
 priceAt b at = record { cents = signedAt b at }
 
+abbrev pub headerBy : Form → List ℕ → Field
+headerBy form b = Header (getD b 0 0) (be2At b 1) form
+
 abbrev pub headerOf : List ℕ → Field
-headerOf b = Header (getD b 0 0) (be2At b 1) Short
+headerOf b = headerBy Short b
 
 abbrev pub previousOf : List ℕ → Field
 previousOf b = PreviousClose (getD b 0 0) (priceAt b 1)
@@ -80,7 +83,7 @@ abbrev pub endOf : List ℕ → Field
 endOf b = End (be4At b 0)
 
 abbrev pub longHeaderOf : List ℕ → Field
-longHeaderOf b = Header (getD b 0 0) (be2At b 1) (Long (getD b 3 0))
+longHeaderOf b = headerBy (Long (getD b 3 0)) b
 
 unfoldable pub fieldOf : ℕ → List ℕ → Field
 fieldOf tag b =

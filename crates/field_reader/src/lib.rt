@@ -1,18 +1,20 @@
 // Reads one field at a place of a sheet: its values with the place behind it, or the first number it earns; and its body as a part of the sheet.
 ghost use mathlib.Core.Path.{_≡_};
+ghost use Prim.Native.Nat.{_≤_};
 ghost use lib.ListN.{length, getD};
 ghost use Rattle.field.specs.declared.Field.the-variants as F;
 ghost use Rattle.field.specs.Judging as Judging;
 ghost use Rattle.field.specs.Judging.{alone};
-ghost use Rattle.field.specs.Layout.{previousOf, tradeOf, quoteOf};
+ghost use Rattle.field.specs.Layout.{headerBy, previousOf, tradeOf, quoteOf, longHeaderOf};
 ghost use Rattle.field.specs.Said.{readSays, settled};
 ghost use Rattle.field.specs.Reading.{taggedNumber, headNumber, shapeAt, readField, bodyOf};
 ghost use Rattle.field_reader.specs.laws.Heads.{Heads};
 use field::Field;
+use field::Form;
 use field::Price;
 use field::Read;
 use field::judge::by_itself;
-use field::judge::judge;
+use field::judge::judge_header;
 use field::judge::judge_previous;
 use field::judge::judge_quote;
 use field::judge::judge_trade;
@@ -23,6 +25,7 @@ use field::layout::remaining;
 use field::layout::size_of;
 use field::layout::tag_right;
 use field::number;
+use raw_reader::end_of;
 use raw_reader::field_of;
 use raw_reader::price_at;
 use wire::join2;
@@ -76,6 +79,23 @@ fn settle(found: u8, at: usize, field: Field, next: usize) -> Read
 }
 
 // A body's values judged by themselves, by its tag: as numbers, so that no field is made before it is right.
+fn header_read(body: &[u8], form: Form, at: usize, next: usize) -> Read
+    requires { ⌜ 3 ≤ length (now body) ⌝ }
+    ensures { λ r. ⌜ readSays r ≡ settled (Judging.judge alone (headerBy form (now (body .entry)))) at (headerBy form (now (body .entry))) next ⌝ }
+{
+    let metal = body[0];
+    let marks = join2(body[1], body[2]);
+    let found = judge_header(metal, marks, form);
+    settle(found, at, Field::Header { metal, marks, form }, next)
+}
+
+fn long_header_read(body: &[u8], at: usize, next: usize) -> Read
+    requires { ⌜ length (now body) ≡ 4 ⌝ }
+    ensures { λ r. ⌜ readSays r ≡ settled (Judging.judge alone (longHeaderOf (now (body .entry)))) at (longHeaderOf (now (body .entry))) next ⌝ }
+{
+    header_read(body, Form::Long(body[3]), at, next)
+}
+
 fn previous_read(body: &[u8], at: usize, next: usize) -> Read
     requires { ⌜ length (now body) ≡ 5 ⌝ }
     ensures { λ r. ⌜ readSays r ≡ settled (Judging.judge alone (previousOf (now (body .entry)))) at (previousOf (now (body .entry))) next ⌝ }
@@ -136,6 +156,19 @@ fn quote_read(body: &[u8], at: usize, next: usize) -> Read
 }
 
 // The field at a place whose head tells this tag and this length, with so many bytes from the place on: 4, 2 or what its values earn.
+fn header_at(sheet: &[u8], at: usize, told: u16, rest: usize) -> Read
+    requires { ⌜ Heads (now sheet) at 1 told rest ⌝ }
+    ensures { λ r. ⌜ readSays r ≡ readField (now (sheet .entry)) at ⌝ }
+{
+    let found = tagged_number(layout::HEADER, told, rest);
+    if found != number::FINE {
+        return Read::Refused(found, at);
+    }
+    let start = at + 3;
+    let next = at + 6;
+    header_read(&sheet[start..next], Form::Short, at, next)
+}
+
 fn previous_at(sheet: &[u8], at: usize, told: u16, rest: usize) -> Read
     requires { ⌜ Heads (now sheet) at 2 told rest ⌝ }
     ensures { λ r. ⌜ readSays r ≡ readField (now (sheet .entry)) at ⌝ }
@@ -175,17 +208,33 @@ fn quote_at(sheet: &[u8], at: usize, told: u16, rest: usize) -> Read
     quote_read(&sheet[start..next], at, next)
 }
 
-// Whatever stands at a place: its shape, then its values.
-fn any_at(sheet: &[u8], at: usize) -> Read
+fn end_at(sheet: &[u8], at: usize, told: u16, rest: usize) -> Read
+    requires { ⌜ Heads (now sheet) at 5 told rest ⌝ }
     ensures { λ r. ⌜ readSays r ≡ readField (now (sheet .entry)) at ⌝ }
 {
-    match shape_at(sheet, at) {
-        Read::Field(field, next) => settle(judge(by_itself(), field), at, field, next),
-        Read::Refused(found, place) => Read::Refused(found, place),
+    let found = tagged_number(layout::END, told, rest);
+    if found != number::FINE {
+        return Read::Refused(found, at);
     }
+    let start = at + 3;
+    let next = at + 7;
+    Read::Field(end_of(&sheet[start..next]), next)
 }
 
-// The same by the tag that stands there: those that most fields have by their numbers, and any other by its shape.
+fn long_header_at(sheet: &[u8], at: usize, told: u16, rest: usize) -> Read
+    requires { ⌜ Heads (now sheet) at 6 told rest ⌝ }
+    ensures { λ r. ⌜ readSays r ≡ readField (now (sheet .entry)) at ⌝ }
+{
+    let found = tagged_number(layout::LONG_HEADER, told, rest);
+    if found != number::FINE {
+        return Read::Refused(found, at);
+    }
+    let start = at + 3;
+    let next = at + 7;
+    long_header_read(&sheet[start..next], at, next)
+}
+
+// The same by the tag that stands there: first those that most fields have.
 fn tagged_at(sheet: &[u8], at: usize, told: u16, rest: usize) -> Read
     requires { ⌜ Heads (now sheet) at (getD (now sheet) at 0) told rest ⌝ }
     ensures { λ r. ⌜ readSays r ≡ readField (now (sheet .entry)) at ⌝ }
@@ -200,7 +249,16 @@ fn tagged_at(sheet: &[u8], at: usize, told: u16, rest: usize) -> Read
     if tag == layout::PREVIOUS_CLOSE {
         return previous_at(sheet, at, told, rest);
     }
-    any_at(sheet, at)
+    if tag == layout::HEADER {
+        return header_at(sheet, at, told, rest);
+    }
+    if tag == layout::END {
+        return end_at(sheet, at, told, rest);
+    }
+    if tag == layout::LONG_HEADER {
+        return long_header_at(sheet, at, told, rest);
+    }
+    Read::Refused(number::TAG, at)
 }
 
 // The field at a place, its values judged by themselves.

@@ -1,10 +1,9 @@
 // The constant tables by metal, by contract, by instrument and by the header's third value, the windows and the marks: RULES 1 to 4. Hosts don't call it.
 ghost use mathlib.Core.Path.{_≡_};
 ghost use mathlib.Core.Bool.{cond};
-ghost use mathlib.Core.List.{[], _∷_};
 ghost use lib.Dec.{eqb};
-ghost use Rattle.market.specs.Market.{metalOf, contracts, contractBy, instruments, rowLeg, legOf, startOf, inWindow, marked, isIn, named, barred};
-ghost use Rattle.market.specs.laws.Rows.{startIn};
+ghost use Rattle.market.specs.Market.{metalOf, contracts, contractBy, instruments, rowLeg, legOf, startOf, inWindow, marked, named, barred};
+ghost use Rattle.market.specs.laws.Rows.{startIn, barsOf};
 
 // A metal's spread start and anchor start, in milliseconds of the day, and its 3M step, in cents.
 pub struct Metal {
@@ -206,22 +205,6 @@ pub fn is_marked(marks: u16, instrument: u8) -> bool
     false
 }
 
-// Whether a number is one of four.
-fn is_one_of(n: u8, a: u8, b: u8, c: u8, d: u8) -> bool
-    ensures { λ r. ⌜ r ≡ isIn n (a ∷ b ∷ c ∷ d ∷ []) ⌝ }
-{
-    if n == a {
-        return true;
-    }
-    if n == b {
-        return true;
-    }
-    if n == c {
-        return true;
-    }
-    n == d
-}
-
 // Whether 3M is this contract, by the header's third value: M3 with 1, M4 with 2.
 pub fn is_named(third: u8, contract: usize) -> bool
     ensures { λ r. ⌜ r ≡ named third contract ⌝ }
@@ -233,13 +216,23 @@ pub fn is_named(third: u8, contract: usize) -> bool
     }
 }
 
+// The instruments on which no field may be, by the header's third value: bit i for instrument i.
+fn bars_of(third: u8) -> u16
+    ensures { λ r. ⌜ r ≡ barsOf third ⌝ }
+{
+    match third {
+        1 => 0b0010_0100_0110,
+        2 => 0b0100_0111_0000,
+        _ => 0,
+    }
+}
+
 // Whether no field may be on the instrument, by the header's third value.
 pub fn is_barred(third: u8, instrument: u8) -> bool
     ensures { λ r. ⌜ r ≡ barred third instrument ⌝ }
 {
-    match third {
-        1 => is_one_of(instrument, 1, 2, 6, 9),
-        2 => is_one_of(instrument, 4, 5, 6, 10),
-        _ => false,
+    if instrument < 12 {
+        return (bars_of(third) >> instrument) % 2 == 1;
     }
+    false
 }

@@ -69,7 +69,8 @@ fn quote_of(body: &[u8]) -> Field
     }
 }
 
-fn end_of(body: &[u8]) -> Field
+// The values of an end's body.
+pub fn end_of(body: &[u8]) -> Field
     requires { ⌜ length (now body) ≡ 4 ⌝ }
     ensures { λ r. ⌜ r ≡ endOf (now (body .entry)) ⌝ }
 {

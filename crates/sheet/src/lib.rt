@@ -2,16 +2,17 @@
 // pass over a sheet's bytes.
 ghost use mathlib.Core.Path.{_≡_};
 ghost use Prim.Native.Nat.{_+_, _<_, _≤_};
-ghost use lib.ListN.{length};
-ghost use Rattle.wire.specs.Big.{be4At};
+ghost use lib.ListN.{length, getD};
+ghost use Rattle.wire.specs.Big.{be2At, be4At};
 ghost use Rattle.field.specs.Judging.{both, thirdOf, allowed};
-ghost use Rattle.admit.specs.Admitting.{previousPlaced};
+ghost use Rattle.admit.specs.Admitting.{start, afterHeader, previousPlaced};
 ghost use Rattle.sheet.specs.Judgement.{atEnd, judgeSheet, judgedSays};
 ghost use Rattle.sheet.specs.laws.Track.{OnTrack};
 ghost use Rattle.sheet.specs.laws.Past.{rightSize, recordSize, Opened, Nearly};
 use admit::Admitted;
 use admit::Progress;
 use admit::admit;
+use admit::after_header;
 use admit::after_previous;
 use admit::after_record;
 use admit::begin;
@@ -24,9 +25,12 @@ use field::layout;
 use field::layout::stands;
 use field::number;
 use field_reader::shape_at;
+use right_field::right_header;
+use right_field::right_long_header;
 use right_field::right_previous;
 use right_field::right_quote;
 use right_field::right_trade;
+use wire::join2;
 use wire::join4;
 
 // What an accepted sheet's header says, and how many fields it has, the end with them.
@@ -80,12 +84,24 @@ fn number_behind(sheet: &[u8], at: usize) -> u32
     )
 }
 
-// The header bars no field on the instrument.
+// What is kept behind a header of this form at the sheet's start.
+fn header_kept(sheet: &[u8], form: Form) -> Progress
+    requires { ⌜ 6 ≤ length (now sheet) ⌝ }
+    ensures { λ r. ⌜ r ≡ afterHeader start (getD (now (sheet .entry)) 3 0) (be2At (now (sheet .entry)) 4) form ⌝ }
+{
+    after_header(begin(), sheet[3], join2(sheet[4], sheet[5]), form)
+}
+
+// The header bars no field on the instrument: most bar none.
 fn is_let(p: Progress, instrument: u8) -> bool
     ensures { λ r. ⌜ r ≡ allowed (thirdOf (p .form)) instrument ⌝ }
 {
     let form = p.form;
-    is_allowed(third_of(form), instrument)
+    let third = third_of(form);
+    if third == 0 {
+        return true;
+    }
+    is_allowed(third, instrument)
 }
 
 // How many bytes a trade or a quote that stands at a place has, right by itself and but for its time; 0 where none does.
@@ -225,20 +241,19 @@ fn judge_behind(sheet: &[u8], from: usize, header: Progress) -> Judged
     judge_end(sheet, records.at, last)
 }
 
-// Judges a sheet: its length, its first field, then what stands behind the header.
+// Judges a sheet: its length, then its fields.
 pub fn judge_sheet(sheet: &[u8]) -> Judged
     ensures { λ r. ⌜ judgedSays r ≡ judgeSheet (now (sheet .entry)) ⌝ }
 {
     if 1_048_576 < sheet.len() {
         return Judged::Refused(number::LONG, 0);
     }
-    let first = begin();
-    match shape_at(sheet, 0) {
-        Read::Refused(found, _) => Judged::Refused(found, 0),
-        Read::Field(field, next) => match admit(first, field) {
-            Admitted::Refused(found) => Judged::Refused(found, 0),
-            Admitted::Ended => at_end(sheet.len(), next, first),
-            Admitted::Next(header) => judge_behind(sheet, next, header),
-        },
+    if right_header(sheet, 0) {
+        return judge_behind(sheet, 6, header_kept(sheet, Form::Short));
     }
+    if right_long_header(sheet, 0) {
+        let third = sheet[6];
+        return judge_behind(sheet, 7, header_kept(sheet, Form::Long(third)));
+    }
+    judge_from(sheet, 0, begin())
 }

@@ -70,7 +70,8 @@ stood-shape s at tag h = rw (h .tagged) at (shape-fine s at (rw (h .tagged) (hea
 body-byte : (s : List ℕ) (at n k : ℕ) → k < n → getD (take n (drop (at + 3) s)) k 0 ≡ getD s (at + 3 + k) 0
 body-byte s at n k l = getD-take n (drop (at + 3) s) k 0 l ∙ getD-drop (at + 3) s k 0
 
--- so is the number of its first four, a record's time or an end's count; its first byte, a close's instrument; and its fifth, a record's
+-- so is the number of its first four, a record's time or an end's count; its first byte, a header's metal or a close's instrument; a header's marks
+-- and third value; and its fifth, a record's instrument
 pub body-number : (s : List ℕ) (at n : ℕ) → 4 ≤ n → be4At (take n (drop (at + 3) s)) 0 ≡ be4At s (at + 3)
 body-number s at n h =
     let none : at + 3 + 0 ≡ at + 3 = omega arith in
@@ -78,6 +79,15 @@ body-number s at n h =
 
 pub body-first : (s : List ℕ) (at n : ℕ) → 1 ≤ n → getD (take n (drop (at + 3) s)) 0 0 ≡ getD s (at + 3) 0
 body-first s at n h = let none : at + 3 + 0 ≡ at + 3 = omega arith in body-byte s at n 0 (omega arith) ∙ rw none
+
+pub body-second : (s : List ℕ) (at n : ℕ) → 3 ≤ n → be2At (take n (drop (at + 3) s)) 1 ≡ be2At s (at + 4)
+body-second s at n h =
+    let one : at + 3 + 1 ≡ at + 4 = omega arith in
+    let two : at + 3 + 2 ≡ at + 4 + 1 = omega arith in
+    rw (body-byte s at n 1 (omega arith), one, body-byte s at n 2 (omega arith), two)
+
+pub body-fourth : (s : List ℕ) (at n : ℕ) → 4 ≤ n → getD (take n (drop (at + 3) s)) 3 0 ≡ getD s (at + 6) 0
+body-fourth s at n h = let three : at + 3 + 3 ≡ at + 6 = omega arith in body-byte s at n 3 (omega arith) ∙ rw three
 
 pub body-fifth : (s : List ℕ) (at n : ℕ) → 5 ≤ n → getD (take n (drop (at + 3) s)) 4 0 ≡ getD s (at + 7) 0
 body-fifth s at n h = let four : at + 3 + 4 ≡ at + 7 = omega arith in body-byte s at n 4 (omega arith) ∙ rw four

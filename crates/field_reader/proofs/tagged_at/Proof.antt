@@ -1,4 +1,5 @@
 -- `field_reader::tagged_at` meets its contract: each branch knows its tag. Assumes nothing.
+use Rattle.field_reader.specs.laws.Heads.{head-other}
 use borrow.Author.Needs.{needs}
 use Rattle.field_reader.proofs.tagged_at.Statement.{statement}
 use Rattle.field_reader.proofs.tagged_at.Tie as tie
@@ -24,11 +25,26 @@ previous-at-requires c κs = search needs
 returns-3 : tie.Need-returns-3
 returns-3 c = search needs
 
-any-at-requires : tie.Need-any-at-requires
-any-at-requires c κs = search needs
+header-at-requires : tie.Need-header-at-requires
+header-at-requires c κs = search needs
 
 returns-4 : tie.Need-returns-4
 returns-4 c = search needs
+
+end-at-requires : tie.Need-end-at-requires
+end-at-requires c κs = search needs
+
+returns-5 : tie.Need-returns-5
+returns-5 c = search needs
+
+long-header-at-requires : tie.Need-long-header-at-requires
+long-header-at-requires c κs = search needs
+
+returns-6 : tie.Need-returns-6
+returns-6 c = search needs
+
+returns-7 : tie.Need-returns-7
+returns-7 c = search (head-other, needs)
 
 pub tagged-at-spec : {M : Type 1} → statement M
 tagged-at-spec =
@@ -41,5 +57,10 @@ tagged-at-spec =
     returns-2
     previous-at-requires
     returns-3
-    any-at-requires
-    returns-4)
+    header-at-requires
+    returns-4
+    end-at-requires
+    returns-5
+    long-header-at-requires
+    returns-6
+    returns-7)

@@ -4,23 +4,21 @@
 --     head-stood     where it earns nothing, its field stands there
 --     head-read      and the read is what its values earn
 --     settled-as     values that were read one by one
---     any-..         a field read by its shape
 -- Assumes nothing.
-use Prim.Native.Nat.{ℕ, _+_, _-_, _<_, _≤_}
+use Prim.Native.Nat.{ℕ, zero, suc, _+_, _-_, _<_, _≤_}
 use mathlib.Core.Path.{_≡_, refl, sym, ap, _∙_}
+use mathlib.Core.Bool.{Bool, true, false}
 use mathlib.Core.List.{List}
 use native.Mathlib.Omega.{arith}
 use lib.ListN.{length, getD, take, drop}
 use Rattle.wire.specs.Big.{be2At}
 use Rattle.field.specs.declared.Before.{Before}
 use Rattle.field.specs.declared.Field.{Field}
-use Rattle.field.specs.declared.Read.{Read}
-use Rattle.field.specs.declared.Read.the-variants as R
 use Rattle.field.specs.Judging.{fine, alone, judge}
-use Rattle.field.specs.Layout.{sizeOf, fieldOf}
-use Rattle.field.specs.Said.{Said, refuses, settled, readSays}
-use Rattle.field.specs.Reading.{remaining, taggedNumber, headNumber, shapeAt, readField}
-use Rattle.field.specs.laws.Field.{headed, head-short, head-there, part-is, shape-not, read-refused, read-judged}
+use Rattle.field.specs.Layout.{tagRight, sizeOf, endOf, fieldOf}
+use Rattle.field.specs.Said.{Said, gives, refuses, settled}
+use Rattle.field.specs.Reading.{remaining, taggedNumber, headNumber, readField}
+use Rattle.field.specs.laws.Field.{headed, head-short, head-there, part-is, shape-not, read-refused, unless-failed, within-true, settled-fine}
 use Rattle.field.specs.laws.Standing.{Stood, stood-read}
 
 pub record Heads (s : List ℕ) (at tag told rest : ℕ) : Type 0 where
@@ -62,10 +60,26 @@ head-read s at tag h e = e ∙ rw (part-is s at tag) (sym (stood-read s at tag h
 pub settled-as : (at next : ℕ) {x : Said Field} {n : ℕ} {b : Before} {f g : Field} → x ≡ settled n at f next → b ≡ alone → n ≡ judge b f → f ≡ g → x ≡ settled (judge alone g) at g next
 settled-as at next e none number same = e ∙ rw (number, none, same)
 
--- a read by its shape, as the code finds it
-module _ (s : List ℕ) (at : ℕ) {r : Read} (e : readSays r ≡ shapeAt s at) where
-  pub any-judged : {x : Said Field} {n next : ℕ} {b : Before} {f : Field} → r ≡ R.Field f next → x ≡ settled n at f next → b ≡ alone → n ≡ judge b f → x ≡ readField s at
-  any-judged {f = f} d z none number = z ∙ rw (number, none) (sym (read-judged s at f _ (sym e ∙ ap readSays d)))
+-- the values of an end earn nothing
+pub end-read : (s : List ℕ) (at : ℕ) → Stood s at 5 → {f : Field} → f ≡ endOf (take (at + 7 - (at + 3)) (drop (at + 3) s)) → gives f (at + 7) ≡ readField s at
+unfolding fieldOf judge
+end-read s at h e = head-read s at 5 h (ap (λ (f : Field). gives f (at + 7)) e ∙ sym (settled-fine fine at _ (at + 7) refl))
 
-  pub any-refused : {n place : ℕ} → r ≡ R.Refused n place → refuses n place ≡ readField s at
-  any-refused d = sym (read-refused s at _ _ (sym e ∙ ap readSays d))
+-- a tag that is none of the six
+six : (tag : ℕ) → 1 ≤ tag → tag ≤ 6 → (tag ≡ 3 → ⊥) → (tag ≡ 4 → ⊥) → (tag ≡ 2 → ⊥) → (tag ≡ 1 → ⊥) → (tag ≡ 5 → ⊥) → (tag ≡ 6 → ⊥) → ⊥
+six zero l h a b c d e g = omega arith
+six (suc zero) l h a b c d e g = d refl
+six (suc (suc zero)) l h a b c d e g = c refl
+six (suc (suc (suc zero))) l h a b c d e g = a refl
+six (suc (suc (suc (suc zero)))) l h a b c d e g = b refl
+six (suc (suc (suc (suc (suc zero))))) l h a b c d e g = e refl
+six (suc (suc (suc (suc (suc (suc zero)))))) l h a b c d e g = g refl
+six (suc (suc (suc (suc (suc (suc (suc n))))))) l h a b c d e g = omega arith
+
+pub head-other : (s : List ℕ) (at : ℕ) {tag told rest : ℕ} → Heads s at tag told rest → (tag ≡ 3 → ⊥) → (tag ≡ 4 → ⊥) → (tag ≡ 2 → ⊥) → (tag ≡ 1 → ⊥) → (tag ≡ 5 → ⊥) → (tag ≡ 6 → ⊥) → refuses 3 at ≡ readField s at
+head-other s at {tag} {told} {rest} h a b c d e g =
+    head-refused s at tag h (sym (unless-failed (tagRight tag) 3 _ (none (tagRight tag) refl))) (λ z. omega arith)
+  where
+    none : (t : Bool) → tagRight tag ≡ t → t ≡ false
+    none false p = refl
+    none true p = let w = within-true 1 6 tag p in absurd (six tag (w .0) (w .1) a b c d e g)

@@ -1,24 +1,20 @@
--- `market::is_barred` meets its contract: each arm knows its third value. Assumes nothing.
+-- `market::is_barred` meets its contract: an instrument's bit, and no bit above 11. Assumes nothing.
 use borrow.Author.Needs.{needs}
-use Rattle.market.specs.laws.Rows.{barred-by, barred-none}
+use Rattle.market.specs.laws.Rows.{barred-bit, barred-above}
 use Rattle.market.proofs.is_barred.Statement.{statement}
 use Rattle.market.proofs.is_barred.Tie as tie
 
-is-one-of-requires : tie.Need-is-one-of-requires
-is-one-of-requires c κs = search needs
+bars-of-requires : tie.Need-bars-of-requires
+bars-of-requires c κs = search needs
 
-is-one-of-requires-2 : tie.Need-is-one-of-requires-2
-is-one-of-requires-2 c κs = search needs
+shr-result : tie.Need-shr-result
+shr-result c = search needs
 
 returns : tie.Need-returns
-returns c = rw (c .before .match .keys1) (barred-by 1 _ (c .is-one-of .ensures))
+returns c = rw (c .bars-of .ensures) (barred-bit _ _ (c .before .if1 .taken))
 
 returns-2 : tie.Need-returns-2
-returns-2 c = rw (c .before .match .keys2) (barred-by 2 _ (c .is-one-of2 .ensures))
-
-returns-3 : tie.Need-returns-3
-returns-3 c = barred-none _ _ (c .match .rest .0 .1) (c .match .rest .1)
+returns-2 c = barred-above _ _ (c .if1 .left)
 
 pub is-barred-spec : {M : Type 1} → statement M
-is-barred-spec =
-    tie.close (tie.spec is-one-of-requires is-one-of-requires-2 returns returns-2 returns-3)
+is-barred-spec = tie.close (tie.spec bars-of-requires shr-result returns returns-2)

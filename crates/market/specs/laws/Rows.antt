@@ -2,17 +2,18 @@
 -- Assumes nothing.
 use Prim.Native.Nat.{ℕ, zero, suc, _+_, _-_, _/_, _%_, _^_, _≤_, _<_}
 use mathlib.Core.Path.{_≡_, refl, sym, ap, _∙_}
-use mathlib.Core.Bool.{Bool, true, false, _||_, cond}
-use mathlib.Core.List.{List, [], _∷_}
+use mathlib.Core.Bool.{Bool, true, false, not, _||_, cond}
+use mathlib.Core.List.{[], _∷_}
 use native.Mathlib.Nat.{div-eq-of-lt, pow-le-pow-right, lt-of-lt-of-le}
 use native.Mathlib.Decide.{decLt}
 use native.Mathlib.Omega.{arith}
-use borrow.Author.Tests.{le-leb, lt-leb, lt-ltb, le-ltb, leb-true, ltb-true, eq-eqb, ne-eqb}
-use lib.Dec.{leb, ltb, eqb}
+use borrow.Author.Tests.{le-leb, lt-leb, lt-ltb, le-ltb, leb-true, ltb-true, ne-eqb}
+use lib.Dec.{T, leb, ltb, eqb}
 use lib.ListN.{getD, List·getD-eq-default}
+use Rattle.market.specs.laws.Table.{below}
 use Rattle.market.specs.declared.Metal.{Metal}
 use Rattle.market.specs.declared.Leg.the-variants.{Outright}
-use Rattle.market.specs.Market.{metals, metalBy, metalOf, contracts, contractBy, contractOf, instruments, rowLeg, legOf, startOf, windowLength, inWindow, marked, namedBy, barredBy, isIn, named, barred}
+use Rattle.market.specs.Market.{metals, metalBy, metalOf, contracts, contractBy, contractOf, instruments, rowLeg, legOf, startOf, windowLength, inWindow, marked, namedBy, isIn, named, barred}
 
 -- the number itself, for a proof that asks for it
 pub window-length : windowLength ≡ 300000
@@ -85,15 +86,7 @@ marked-above marks i m h =
     let small : marks < 2 ^ (i - 1) = lt-of-lt-of-le m (pow-le-pow-right {n = 2} (omega arith) {i = 16} {j = i - 1} (omega arith)) in
     marked-at marks i (λ e. omega arith) ∙ simp (div-eq-of-lt small)
 
--- ---- a number in a row, as the code compares
-
-pub in-first : {n a : ℕ} (l : List ℕ) → n ≡ a → true ≡ isIn n (a ∷ l)
-unfolding isIn
-in-first {n} {a} l e = simp (eq-eqb n a e)
-
-pub in-rest : {n a : ℕ} (l : List ℕ) {t : Bool} → (n ≡ a → ⊥) → t ≡ isIn n l → t ≡ isIn n (a ∷ l)
-unfolding isIn
-in-rest {n} {a} l h e = e ∙ simp (ne-eqb n a h)
+-- ---- a number in a row of one, as the code compares
 
 pub in-one : (n a : ℕ) → eqb n a ≡ isIn n (a ∷ [])
 unfolding isIn
@@ -103,26 +96,53 @@ in-one n a = by-test (eqb n a)
     by-test true = refl
     by-test false = refl
 
--- ---- the tables by the third value, which have no row but for 1 and 2
+-- ---- the contract that 3M is: no row but for 1 and 2
 
 pub named-by : (third contract : ℕ) {t : Bool} → t ≡ isIn contract (getD namedBy third []) → t ≡ named third contract
 unfolding named
 named-by third contract e = e
 
-pub barred-by : (third instrument : ℕ) {t : Bool} → t ≡ isIn instrument (getD barredBy third []) → t ≡ barred third instrument
-unfolding barred
-barred-by third instrument e = e
-
-no-row : (a b : List ℕ) (third : ℕ) → (third ≡ 1 → ⊥) → (third ≡ 2 → ⊥) → getD ([] ∷ a ∷ b ∷ []) third [] ≡ []
-no-row a b zero one two = refl
-no-row a b (suc zero) one two = absurd (one refl)
-no-row a b (suc (suc zero)) one two = absurd (two refl)
-no-row a b (suc (suc (suc n))) one two = refl
-
 pub named-none : (third contract : ℕ) → (third ≡ 1 → ⊥) → (third ≡ 2 → ⊥) → false ≡ named third contract
-unfolding isIn
-named-none third contract one two = named-by third contract (sym (ap (isIn contract) (no-row _ _ third one two)))
+unfolding named isIn
+named-none zero contract one two = refl
+named-none (suc zero) contract one two = absurd (one refl)
+named-none (suc (suc zero)) contract one two = absurd (two refl)
+named-none (suc (suc (suc n))) contract one two = refl
 
-pub barred-none : (third instrument : ℕ) → (third ≡ 1 → ⊥) → (third ≡ 2 → ⊥) → false ≡ barred third instrument
-unfolding isIn
-barred-none third instrument one two = barred-by third instrument (sym (ap (isIn instrument) (no-row _ _ third one two)))
+-- ---- the barred instruments as bits
+
+unfoldable pub barsOf : ℕ → ℕ
+barsOf third = getD (0 ∷ 582 ∷ 1136 ∷ []) third 0
+
+pub bars-none : (third : ℕ) → (third ≡ 1 → ⊥) → (third ≡ 2 → ⊥) → 0 ≡ barsOf third
+unfolding barsOf
+bars-none zero one two = refl
+bars-none (suc zero) one two = absurd (one refl)
+bars-none (suc (suc zero)) one two = absurd (two refl)
+bars-none (suc (suc (suc n))) one two = refl
+
+-- two tests say the same
+abbrev agree : Bool → Bool → Bool
+agree a b = cond a b (not b)
+
+agree-is : (a b : Bool) → T (agree a b) → a ≡ b
+agree-is true true h = refl
+agree-is true false h = absurd h
+agree-is false true h = absurd h
+agree-is false false h = refl
+
+-- each bit of a row, by one computed test over the twelve instruments
+pub barred-bit : (third i : ℕ) → i < 12 → eqb (barsOf third / 2 ^ i % 2) 1 ≡ barred third i
+unfolding barsOf barred isIn
+barred-bit zero i h = agree-is _ _ (below (λ i. agree (eqb (0 / 2 ^ i % 2) 1) false) 12 i tt h)
+barred-bit (suc zero) i h = agree-is _ _ (below (λ i. agree (eqb (582 / 2 ^ i % 2) 1) (isIn i (1 ∷ 2 ∷ 6 ∷ 9 ∷ []))) 12 i tt h)
+barred-bit (suc (suc zero)) i h = agree-is _ _ (below (λ i. agree (eqb (1136 / 2 ^ i % 2) 1) (isIn i (4 ∷ 5 ∷ 6 ∷ 10 ∷ []))) 12 i tt h)
+barred-bit (suc (suc (suc n))) i h = agree-is _ _ (below (λ i. agree (eqb (0 / 2 ^ i % 2) 1) false) 12 i tt h)
+
+-- no row has an instrument above 11
+pub barred-above : (third i : ℕ) → 12 ≤ i → false ≡ barred third i
+unfolding barred isIn
+barred-above zero i h = refl
+barred-above (suc zero) i h = simp (ne-eqb i 1 (λ e. omega arith), ne-eqb i 2 (λ e. omega arith), ne-eqb i 6 (λ e. omega arith), ne-eqb i 9 (λ e. omega arith))
+barred-above (suc (suc zero)) i h = simp (ne-eqb i 4 (λ e. omega arith), ne-eqb i 5 (λ e. omega arith), ne-eqb i 6 (λ e. omega arith), ne-eqb i 10 (λ e. omega arith))
+barred-above (suc (suc (suc n))) i h = refl

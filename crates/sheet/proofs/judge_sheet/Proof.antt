@@ -1,73 +1,63 @@
 -- `sheet::judge_sheet` meets its contract. Assumes nothing.
-use Rattle.sheet.specs.laws.Past.{opened}
-use Rattle.sheet.specs.laws.Track.{too-long, at-start, first-refusal, at-room, at-stop, at-last}
 use borrow.Author.Needs.{needs}
+use Rattle.sheet.specs.laws.Track.{too-long, at-start}
+use Rattle.sheet.specs.laws.Past.{short-inside, long-inside, long-room, opened-short, opened-long}
 use Rattle.sheet.proofs.judge_sheet.Statement.{statement}
 use Rattle.sheet.proofs.judge_sheet.Tie as tie
 
-ruleset first = (too-long, at-start, opened, first-refusal, at-room, at-stop, at-last, needs)
-
 returns : tie.Need-returns
-returns c = search first
+returns c = search (too-long, needs)
+
+right-header-requires : tie.Need-right-header-requires
+right-header-requires c κs = search needs
+
+header-kept-requires : tie.Need-header-kept-requires
+header-kept-requires c κs = search (short-inside, needs)
+
+judge-behind-requires : tie.Need-judge-behind-requires
+judge-behind-requires c κs = search (opened-short, needs)
+
+returns-2 : tie.Need-returns-2
+returns-2 c = search needs
+
+right-long-header-requires : tie.Need-right-long-header-requires
+right-long-header-requires c κs = search needs
+
+shared-slice-read-third : tie.Need-shared-slice-read-third
+shared-slice-read-third c = search (long-inside, needs)
+
+header-kept-requires-2 : tie.Need-header-kept-requires-2
+header-kept-requires-2 c κs = search (long-room, needs)
+
+judge-behind-requires-2 : tie.Need-judge-behind-requires-2
+judge-behind-requires-2 c κs = search (opened-long, needs)
+
+returns-3 : tie.Need-returns-3
+returns-3 c = search needs
 
 begin-requires : tie.Need-begin-requires
 begin-requires c κs = search needs
 
-shape-at-requires : tie.Need-shape-at-requires
-shape-at-requires c κs = search needs
-
-enum-known-found : tie.Need-enum-known-found
-enum-known-found c = search needs
-
-enum-known-field : tie.Need-enum-known-field
-enum-known-field c = search needs
-
-admit-requires : tie.Need-admit-requires
-admit-requires c κs = search needs
-
-enum-known-found-2 : tie.Need-enum-known-found-2
-enum-known-found-2 c = search needs
-
-enum-told : tie.Need-enum-told
-enum-told c = search needs
-
-at-end-requires : tie.Need-at-end-requires
-at-end-requires c κs = search first
-
-enum-known-header : tie.Need-enum-known-header
-enum-known-header c = search needs
-
-judge-behind-requires : tie.Need-judge-behind-requires
-judge-behind-requires c κs = search first
-
-returns-2 : tie.Need-returns-2
-returns-2 c = search first
-
-returns-3 : tie.Need-returns-3
-returns-3 c = search first
+judge-from-requires : tie.Need-judge-from-requires
+judge-from-requires c κs = search (at-start, needs)
 
 returns-4 : tie.Need-returns-4
-returns-4 c = search first
-
-returns-5 : tie.Need-returns-5
-returns-5 c = search needs
+returns-4 c = search needs
 
 pub judge-sheet-spec : {M : Type 1} → statement M
 judge-sheet-spec =
     tie.close
     (tie.spec
     returns
-    begin-requires
-    shape-at-requires
-    enum-known-found
-    enum-known-field
-    admit-requires
-    enum-known-found-2
-    enum-told
-    at-end-requires
-    enum-known-header
+    right-header-requires
+    header-kept-requires
     judge-behind-requires
     returns-2
+    right-long-header-requires
+    shared-slice-read-third
+    header-kept-requires-2
+    judge-behind-requires-2
     returns-3
-    returns-4
-    returns-5)
+    begin-requires
+    judge-from-requires
+    returns-4)

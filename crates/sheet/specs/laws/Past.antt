@@ -1,4 +1,4 @@
--- Laws of going past right fields behind the header: closes, then records, each found by its bytes alone, and then a right end.
+-- Laws of going past right fields: a header of either form, then closes, then records, each found by its bytes alone, and then a right end.
 --     Opened    on the way, behind the header, no record yet
 --     Nearly    on the way as soon as the last time is one of the day: times never fall, so then all before it are
 -- The premises are the facts as they stand in the code. Assumes nothing.
@@ -12,26 +12,25 @@ use lib.Dec.{leb}
 use lib.ListN.{length, getD, take, drop}
 use mir.Syntax.{w64}
 use mir.Val.{Fits}
-use Rattle.wire.specs.Big.{be4At}
+use Rattle.wire.specs.Big.{be2At, be4At}
+use Rattle.market.specs.Market.{isIn, barred}
+use Rattle.field.specs.declared.Form.{Form}
+use Rattle.field.specs.declared.Form.the-variants.{Short, Long}
 use Rattle.field.specs.declared.Before.{Before}
 use Rattle.field.specs.declared.Field.{Field}
-use Rattle.field.specs.declared.Read.{Read}
-use Rattle.field.specs.declared.Read.the-variants as R
-use Rattle.field.specs.Said.{gives, readSays}
+use Rattle.field.specs.Said.{gives}
 use Rattle.field.specs.Judging.{fine, both, thirdOf, allowed, judge}
 use Rattle.field.specs.Layout.{lengthOf, sizeOf, fieldOf}
 use Rattle.field.specs.Reading.{bodyAt, shapeAt}
 use Rattle.field.specs.laws.Field.{both-true, unless-passed}
-use Rattle.field.specs.laws.Standing.{stands, stands-whole, Stood, stood, stood-shape, fieldAt, body-number, body-first, body-fifth}
-use Rattle.right_field.specs.laws.Right.{rightAt, Right, right, InTime, Timely, timed}
+use Rattle.field.specs.laws.Standing.{stands, stands-whole, Stood, stood, stood-shape, fieldAt, body-number, body-first, body-second, body-fourth, body-fifth}
+use Rattle.right_field.specs.laws.Right.{untimed, rightAt, Right, right, InTime, Timely, timed}
 use Rattle.admit.specs.declared.Progress.{Progress}
-use Rattle.admit.specs.declared.Admitted.{Admitted}
-use Rattle.admit.specs.declared.Admitted.the-variants as A
-use Rattle.admit.specs.Admitting.{start, beforeOf, previousPlaced, placed, countNumber, afterPrevious, afterRecord, goes, admitted, admit, admitSays}
-use Rattle.admit.specs.laws.Admitting.{passed-taken, went, first-header, header-kept}
+use Rattle.admit.specs.Admitting.{start, beforeOf, previousPlaced, placed, countNumber, afterHeader, afterPrevious, afterRecord, goes, admitted, admit}
+use Rattle.admit.specs.laws.Admitting.{passed-taken}
 use Rattle.sheet.specs.Judgement.{Verdict, atEnd, judgeSheet}
 use Rattle.sheet.specs.laws.Walk.{left, shape-grows}
-use Rattle.sheet.specs.laws.Track.{OnTrack, at-start, at-next, on-room, on-last, on-next}
+use Rattle.sheet.specs.laws.Track.{OnTrack, at-start, on-room, on-last, on-next}
 
 -- a field whose values earn no number is taken where it has its place
 takes : (p : Progress) (f : Field) → p .count < 1048576 → judge (beforeOf p) f ≡ fine → placed p f ≡ true → countNumber p f ≡ fine → admit p f ≡ admitted p f
@@ -40,6 +39,15 @@ takes p f room values place counted = passed-taken p f (record { room = room; pl
 -- the bytes of a right field are in the sheet
 pub right-whole : (s : List ℕ) (at tag : ℕ) {t : Bool} → t ≡ rightAt s at tag → t ≡ true → at + sizeOf tag ≤ length s
 right-whole s at tag e h = stands-whole s at tag refl (both-true (stands s at tag) _ (sym e ∙ h) .0)
+
+-- 0 bars no instrument; another third value bars by its row
+module _ (instrument : ℕ) {third n : ℕ} (e : third ≡ n) where
+  pub let-none : third ≡ 0 → true ≡ allowed n instrument
+  unfolding barred isIn
+  let-none z = rw (sym e ∙ z) refl
+
+  pub let-by : {t : Bool} → t ≡ allowed third instrument → t ≡ allowed n instrument
+  let-by k = k ∙ rw e refl
 
 -- two tests one after the other, as the code has them
 module _ (a b : Bool) {t : Bool} (e : t ≡ a) where
@@ -57,14 +65,46 @@ pub record Opened (s : List ℕ) (at : ℕ) (p : Progress) : Type 0 where
   pub track : OnTrack s at p
   pub first : p .stage ≡ 1
 
--- the first field is the header
-pub opened : (s : List ℕ) {r : Read} {f : Field} {next : ℕ} {p q : Progress} {t : Admitted} → length s ≤ 1048576 → readSays r ≡ shapeAt s 0 → r ≡ R.Field f next → p ≡ start → admitSays t ≡ admit p f → t ≡ A.Next q → Opened s next q
-opened s {r} {f} {next} {p} {q} small e d b k w =
-    let goes-on : admit p f ≡ goes q = sym k ∙ ap admitSays w in
-    let none : p .stage ≡ 0 = ap (λ (x : Progress). x .stage) b in
-    let h = first-header p f (went p f q goes-on .0) none in
-    let behind = header-kept p (h .metal) (h .marks) (h .form) q (rw (h .is) at goes-on) in
-    record { track = at-next s 0 p (at-start s b small) e d k w; first = ap (λ (x : Progress). x .stage) behind }
+short-goes : (s : List ℕ) → Right s 0 1 → admit start (fieldAt s 0 1) ≡ goes (afterHeader start (getD s 3 0) (be2At s 4) Short)
+unfolding fieldOf untimed placed countNumber admitted
+short-goes s r =
+    takes start (fieldAt s 0 1) (omega arith) (r .values) refl refl
+    ∙ rw (body-first s 0 3 (omega arith), body-second s 0 3 (omega arith))
+
+long-goes : (s : List ℕ) → Right s 0 6 → admit start (fieldAt s 0 6) ≡ goes (afterHeader start (getD s 3 0) (be2At s 4) (Long (getD s 6 0)))
+unfolding fieldOf untimed placed countNumber admitted
+long-goes s r =
+    takes start (fieldAt s 0 6) (omega arith) (r .values) refl refl
+    ∙ rw (body-first s 0 4 (omega arith), body-second s 0 4 (omega arith), body-fourth s 0 4 (omega arith))
+
+pub short-inside : (s : List ℕ) {t : Bool} → t ≡ rightAt s 0 1 → t ≡ true → 6 ≤ length s
+short-inside s e h = right-whole s 0 1 e h
+
+pub long-inside : (s : List ℕ) {t : Bool} → t ≡ rightAt s 0 6 → t ≡ true → 7 ≤ length s
+long-inside s e h = right-whole s 0 6 e h
+
+pub long-room : (s : List ℕ) {t : Bool} → t ≡ rightAt s 0 6 → t ≡ true → 6 ≤ length s
+long-room s e h = omega (arith, long-inside s e h)
+
+-- what is kept behind it
+pub header-room : {p : Progress} → p ≡ start → p .count < 1048576
+header-room e = rw e (omega arith)
+
+pub header-kept : (s : List ℕ) (form : Form) {p q : Progress} {marks : ℕ} → p ≡ start → marks ≡ be2At s 4 → q ≡ afterHeader p (getD s 3 0) marks form → q ≡ afterHeader start (getD s 3 0) (be2At s 4) form
+header-kept s form b m k = k ∙ rw (b, m)
+
+module _ (s : List ℕ) {t : Bool} {p : Progress} (h : t ≡ true) (small : length s ≤ 1048576) where
+  pub opened-short : t ≡ rightAt s 0 1 → p ≡ afterHeader start (getD s 3 0) (be2At s 4) Short → Opened s 6 p
+  unfolding both
+  opened-short e k =
+      let r = right s 0 1 refl (sym e ∙ h) in
+      rw k (record { track = on-next s 0 start (at-start s refl small) (stood-shape s 0 1 (r .stands-there)) (short-goes s r); first = refl })
+
+  pub opened-long : t ≡ rightAt s 0 6 → p ≡ afterHeader start (getD s 3 0) (be2At s 4) (Long (getD s 6 0)) → Opened s 7 p
+  unfolding both
+  opened-long e k =
+      let r = right s 0 6 refl (sym e ∙ h) in
+      rw k (record { track = on-next s 0 start (at-start s refl small) (stood-shape s 0 6 (r .stands-there)) (long-goes s r); first = refl })
 
 module _ (s : List ℕ) (at : ℕ) (p : Progress) (o : Opened s at p) {t : Bool} (e : t ≡ rightAt s at 2) (h : t ≡ true) where
   close-right : Right s at 2

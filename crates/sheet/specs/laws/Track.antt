@@ -4,7 +4,7 @@
 --     at-..      the same with the facts as they stand in the code: what a call ensures of its result, and the case that the result was found to be
 -- Assumes nothing.
 use Prim.Native.Nat.{ℕ, _<_, _≤_}
-use mathlib.Core.Path.{_≡_, refl, sym, _∙_, ap}
+use mathlib.Core.Path.{_≡_, sym, _∙_, ap}
 use mathlib.Core.List.{List}
 use native.Mathlib.Omega.{arith}
 use borrow.Author.Tests.{le-leb, lt-leb}
@@ -81,7 +81,3 @@ module _ (s : List ℕ) (at : ℕ) (p : Progress) (o : OnTrack s at p) {r : Read
 
       pub at-next : {q : Progress} → t ≡ A.Next q → OnTrack s next q
       at-next w = on-next s at p o (read-gave s at e d) (sym k ∙ ap admitSays w)
-
--- the first place of a sheet, where none of its fields is known
-pub first-refusal : (s : List ℕ) {r : Read} {number place : ℕ} → length s ≤ 1048576 → readSays r ≡ shapeAt s 0 → r ≡ R.Refused number place → refuses-at number 0 ≡ judgeSheet s
-first-refusal s small e d = at-refusal s 0 start (at-start s refl small) e d
