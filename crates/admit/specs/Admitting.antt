@@ -14,7 +14,7 @@ use Rattle.admit.specs.declared.Admitted.the-variants as A
 
 -- before the first field
 abbrev pub start : Progress
-start = record { stage = 0; instrument = 0; time = 0; count = 0; metal = 0; marks = 0; form = Short }
+start = record { stage = 0; metal = 0; marks = 0; form = Short; instrument = 0; time = 0; count = 0 }
 
 -- SHEET 2: one header, first; then previous closes, each with a higher instrument than the one before; then trades and quotes; then one end. Else 5
 unfoldable pub previousPlaced : Progress → ℕ → Bool
@@ -48,13 +48,13 @@ admitNumber p f =
 
 -- what is kept behind a header, a previous close, and a record
 abbrev pub afterHeader : Progress → ℕ → ℕ → Form → Progress
-afterHeader p metal marks form = record { stage = 1; instrument = p .instrument; time = p .time; count = p .count + 1; metal = metal; marks = marks; form = form }
+afterHeader p metal marks form = record { stage = 1; metal = metal; marks = marks; form = form; instrument = p .instrument; time = p .time; count = p .count + 1 }
 
 abbrev pub afterPrevious : Progress → ℕ → Progress
-afterPrevious p instrument = record { stage = 1; instrument = instrument + 1; time = p .time; count = p .count + 1; metal = p .metal; marks = p .marks; form = p .form }
+afterPrevious p instrument = record { stage = 1; metal = p .metal; marks = p .marks; form = p .form; instrument = instrument + 1; time = p .time; count = p .count + 1 }
 
 abbrev pub afterRecord : Progress → ℕ → Progress
-afterRecord p time = record { stage = 2; instrument = p .instrument; time = time; count = p .count + 1; metal = p .metal; marks = p .marks; form = p .form }
+afterRecord p time = record { stage = 2; metal = p .metal; marks = p .marks; form = p .form; instrument = p .instrument; time = time; count = p .count + 1 }
 
 -- what is said of a field that comes next: on it goes, with what is kept; it is the end; or no, with a number of the table
 pub data Step : Type 0 where

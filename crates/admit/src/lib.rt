@@ -13,16 +13,16 @@ use field::judge::third_of;
 use field::judge::unless;
 use field::number;
 
-// What is kept between two fields. stage 0: a header comes next; 1: previous closes may still come; 2: trades and quotes only. A previous
-// close's instrument is at least instrument, a record's time at least time. count: the fields so far. metal, marks and form are the header's.
+// What is kept between two fields. stage 0: a header comes next; 1: previous closes may still come; 2: trades and quotes only. metal, marks and
+// form are the header's. A previous close's instrument is at least instrument, a record's time at least time. count: the fields so far.
 pub struct Progress {
     pub stage: u8,
-    pub instrument: u16,
-    pub time: u32,
-    pub count: u32,
     pub metal: u8,
     pub marks: u16,
     pub form: Form,
+    pub instrument: u16,
+    pub time: u32,
+    pub count: u32,
 }
 
 // A field that may come next and what is kept behind it, the right end field, or the number of a refusal.
@@ -38,12 +38,12 @@ pub fn begin() -> Progress
 {
     Progress {
         stage: 0,
-        instrument: 0,
-        time: 0,
-        count: 0,
         metal: 0,
         marks: 0,
         form: Form::Short,
+        instrument: 0,
+        time: 0,
+        count: 0,
     }
 }
 
@@ -146,12 +146,12 @@ pub fn after_previous(p: Progress, instrument: u8) -> Progress
     let form = p.form;
     Progress {
         stage: 1,
-        instrument: instrument as u16 + 1,
-        time: p.time,
-        count: p.count + 1,
         metal: p.metal,
         marks: p.marks,
         form,
+        instrument: instrument as u16 + 1,
+        time: p.time,
+        count: p.count + 1,
     }
 }
 
@@ -163,12 +163,12 @@ pub fn after_record(p: Progress, time: u32) -> Progress
     let form = p.form;
     Progress {
         stage: 2,
-        instrument: p.instrument,
-        time,
-        count: p.count + 1,
         metal: p.metal,
         marks: p.marks,
         form,
+        instrument: p.instrument,
+        time,
+        count: p.count + 1,
     }
 }
 
@@ -179,12 +179,12 @@ pub fn after_header(p: Progress, metal: u8, marks: u16, form: Form) -> Progress
 {
     Progress {
         stage: 1,
-        instrument: p.instrument,
-        time: p.time,
-        count: p.count + 1,
         metal,
         marks,
         form,
+        instrument: p.instrument,
+        time: p.time,
+        count: p.count + 1,
     }
 }
 

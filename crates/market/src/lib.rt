@@ -3,7 +3,7 @@ ghost use mathlib.Core.Path.{_≡_};
 ghost use mathlib.Core.Bool.{cond};
 ghost use lib.Dec.{eqb};
 ghost use Rattle.market.specs.Market.{metalOf, contracts, contractBy, instruments, rowLeg, legOf, startOf, inWindow, marked, named, barred};
-ghost use Rattle.market.specs.laws.Rows.{startIn, barsOf};
+ghost use Rattle.market.specs.laws.Rows.{startIn, barsOf, barBit};
 
 // A metal's spread start and anchor start, in milliseconds of the day, and its 3M step, in cents.
 pub struct Metal {
@@ -227,12 +227,16 @@ fn bars_of(third: u8) -> u16
     }
 }
 
+// The bit of an instrument among them. What is no instrument has bit 12, which none of them has, so that no branch asks for it.
+fn bar_bit(instrument: u8) -> u8
+    ensures { λ r. ⌜ r ≡ barBit instrument ⌝ }
+{
+    if instrument < 12 { instrument } else { 12 }
+}
+
 // Whether no field may be on the instrument, by the header's third value.
 pub fn is_barred(third: u8, instrument: u8) -> bool
     ensures { λ r. ⌜ r ≡ barred third instrument ⌝ }
 {
-    if instrument < 12 {
-        return (bars_of(third) >> instrument) % 2 == 1;
-    }
-    false
+    (bars_of(third) >> bar_bit(instrument)) % 2 == 1
 }

@@ -33,7 +33,7 @@ with f (bad number line) = bad number line
 -- `admit` gives 1 where its count reaches the limit, and a text has 1 behind all lines: the count that it is asked with stops below. Such a text has no
 -- sheet within the limit, so nothing else changes
 unfoldable pub capped : Progress → Progress
-capped p = cond (leb (p .count) 1048575) p (record { stage = p .stage; instrument = p .instrument; time = p .time; count = 1048575; metal = p .metal; marks = p .marks; form = p .form })
+capped p = cond (leb (p .count) 1048575) p (record { stage = p .stage; metal = p .metal; marks = p .marks; form = p .form; instrument = p .instrument; time = p .time; count = 1048575 })
 
 -- 5 to 11 and 18 by what `admit` says of the line's field; no line says an end
 unfoldable pub onward : ℕ → Field → Step → (Progress → LinesSay) → LinesSay

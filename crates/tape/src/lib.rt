@@ -37,12 +37,12 @@ fn capped_at(p: Progress) -> Progress
     let form = p.form;
     Progress {
         stage: p.stage,
-        instrument: p.instrument,
-        time: p.time,
-        count: 1_048_575,
         metal: p.metal,
         marks: p.marks,
         form,
+        instrument: p.instrument,
+        time: p.time,
+        count: 1_048_575,
     }
 }
 

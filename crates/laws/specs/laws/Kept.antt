@@ -42,7 +42,7 @@ changed-all P i g f there here = by-test (concerns i f)
 
 -- other marks in the header: what is kept behind a field, and what is told of the day
 abbrev withMarks : ℕ → Progress → Progress
-withMarks m p = record { stage = p .stage; instrument = p .instrument; time = p .time; count = p .count; metal = p .metal; marks = m; form = p .form }
+withMarks m p = record { stage = p .stage; metal = p .metal; marks = m; form = p .form; instrument = p .instrument; time = p .time; count = p .count }
 
 abbrev pub dayWith : ℕ → Day → Day
 dayWith m day = record { metal = day .metal; marks = m; form = day .form; fields = day .fields }

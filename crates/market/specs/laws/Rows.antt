@@ -7,7 +7,7 @@ use mathlib.Core.List.{[], _∷_}
 use native.Mathlib.Nat.{div-eq-of-lt, pow-le-pow-right, lt-of-lt-of-le}
 use native.Mathlib.Decide.{decLt}
 use native.Mathlib.Omega.{arith}
-use borrow.Author.Tests.{le-leb, lt-leb, lt-ltb, le-ltb, leb-true, ltb-true, ne-eqb}
+use borrow.Author.Tests.{le-leb, lt-leb, lt-ltb, le-ltb, leb-true, ltb-true, ltb-false, ne-eqb}
 use lib.Dec.{T, leb, ltb, eqb}
 use lib.ListN.{getD, List·getD-eq-default}
 use Rattle.market.specs.laws.Table.{below}
@@ -131,18 +131,38 @@ agree-is true false h = absurd h
 agree-is false true h = absurd h
 agree-is false false h = refl
 
--- each bit of a row, by one computed test over the twelve instruments
-pub barred-bit : (third i : ℕ) → i < 12 → eqb (barsOf third / 2 ^ i % 2) 1 ≡ barred third i
-unfolding barsOf barred isIn
-barred-bit zero i h = agree-is _ _ (below (λ i. agree (eqb (0 / 2 ^ i % 2) 1) false) 12 i tt h)
-barred-bit (suc zero) i h = agree-is _ _ (below (λ i. agree (eqb (582 / 2 ^ i % 2) 1) (isIn i (1 ∷ 2 ∷ 6 ∷ 9 ∷ []))) 12 i tt h)
-barred-bit (suc (suc zero)) i h = agree-is _ _ (below (λ i. agree (eqb (1136 / 2 ^ i % 2) 1) (isIn i (4 ∷ 5 ∷ 6 ∷ 10 ∷ []))) 12 i tt h)
-barred-bit (suc (suc (suc n))) i h = agree-is _ _ (below (λ i. agree (eqb (0 / 2 ^ i % 2) 1) false) 12 i tt h)
+-- an instrument's bit; a number that is none has 12
+unfoldable pub barBit : ℕ → ℕ
+barBit i = cond (ltb i 12) i 12
 
--- no row has an instrument above 11
-pub barred-above : (third i : ℕ) → 12 ≤ i → false ≡ barred third i
-unfolding barred isIn
-barred-above zero i h = refl
-barred-above (suc zero) i h = simp (ne-eqb i 1 (λ e. omega arith), ne-eqb i 2 (λ e. omega arith), ne-eqb i 6 (λ e. omega arith), ne-eqb i 9 (λ e. omega arith))
-barred-above (suc (suc zero)) i h = simp (ne-eqb i 4 (λ e. omega arith), ne-eqb i 5 (λ e. omega arith), ne-eqb i 6 (λ e. omega arith), ne-eqb i 10 (λ e. omega arith))
-barred-above (suc (suc (suc n))) i h = refl
+pub bit-small : (i : ℕ) → barBit i < 16
+unfolding barBit
+bit-small i = by-test (ltb i 12) refl
+  where
+    by-test : (t : Bool) → ltb i 12 ≡ t → cond t i 12 < 16
+    by-test true e = let h : i < 12 = ltb-true i 12 e in omega arith
+    by-test false e = omega arith
+
+-- each bit of a row, by one computed test over the twelve instruments
+in-row : (third i : ℕ) → i < 12 → eqb (barsOf third / 2 ^ i % 2) 1 ≡ barred third i
+unfolding barsOf barred isIn
+in-row zero i h = agree-is _ _ (below (λ i. agree (eqb (0 / 2 ^ i % 2) 1) false) 12 i tt h)
+in-row (suc zero) i h = agree-is _ _ (below (λ i. agree (eqb (582 / 2 ^ i % 2) 1) (isIn i (1 ∷ 2 ∷ 6 ∷ 9 ∷ []))) 12 i tt h)
+in-row (suc (suc zero)) i h = agree-is _ _ (below (λ i. agree (eqb (1136 / 2 ^ i % 2) 1) (isIn i (4 ∷ 5 ∷ 6 ∷ 10 ∷ []))) 12 i tt h)
+in-row (suc (suc (suc n))) i h = agree-is _ _ (below (λ i. agree (eqb (0 / 2 ^ i % 2) 1) false) 12 i tt h)
+
+-- no row has an instrument above 11, nor bit 12
+above : (third i : ℕ) → 12 ≤ i → eqb (barsOf third / 2 ^ 12 % 2) 1 ≡ barred third i
+unfolding barsOf barred isIn
+above zero i h = refl
+above (suc zero) i h = simp (ne-eqb i 1 (λ e. omega arith), ne-eqb i 2 (λ e. omega arith), ne-eqb i 6 (λ e. omega arith), ne-eqb i 9 (λ e. omega arith))
+above (suc (suc zero)) i h = simp (ne-eqb i 4 (λ e. omega arith), ne-eqb i 5 (λ e. omega arith), ne-eqb i 6 (λ e. omega arith), ne-eqb i 10 (λ e. omega arith))
+above (suc (suc (suc n))) i h = refl
+
+pub barred-bit : (third i : ℕ) → eqb (barsOf third / 2 ^ barBit i % 2) 1 ≡ barred third i
+unfolding barBit
+barred-bit third i = by-test (ltb i 12) refl
+  where
+    by-test : (t : Bool) → ltb i 12 ≡ t → eqb (barsOf third / 2 ^ cond t i 12 % 2) 1 ≡ barred third i
+    by-test true e = in-row third i (ltb-true i 12 e)
+    by-test false e = above third i (ltb-false i 12 e)

@@ -27,7 +27,7 @@ pub capped-same : (p : Progress) → p .count ≤ 1048575 → p ≡ capped p
 unfolding capped
 capped-same p h = simp (le-leb (p .count) 1048575 h)
 
-pub capped-less : (p : Progress) → 1048575 < p .count → record { stage = p .stage; instrument = p .instrument; time = p .time; count = 1048575; metal = p .metal; marks = p .marks; form = p .form } ≡ capped p
+pub capped-less : (p : Progress) → 1048575 < p .count → record { stage = p .stage; metal = p .metal; marks = p .marks; form = p .form; instrument = p .instrument; time = p .time; count = 1048575 } ≡ capped p
 unfolding capped
 capped-less p h = simp (lt-leb (p .count) 1048575 h)
 
