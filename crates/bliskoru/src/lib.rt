@@ -337,6 +337,13 @@ fn write(buffer: &mut [u8], at: usize, field: Field, next: &mut usize) -> u8
     }
 }
 
+// A header of a form. It goes by value, so that the byte which a short one lacks is a zero and not what the stack had.
+fn headed(metal: u8, marks: u16, form: Form) -> Field
+    ensures { λ r. ⌜ r ≡ F.Header metal marks form ⌝ }
+{
+    Field::Header { metal, marks, form }
+}
+
 // Each of the six writes one field at a place: 0 and the place behind it; or the refusal's number, and buffer and place as they were.
 #[no_mangle]
 pub extern "C" fn bliskoru_write_header(
@@ -350,8 +357,7 @@ pub extern "C" fn bliskoru_write_header(
     ensures { λ _. ⌜ now (buffer .exit) ≡ bufferAfter (now (buffer .entry)) at (F.Header metal marks Form.Short) ⌝ }
     ensures { λ _. ⌜ now (next .exit) ≡ saidNext (now (next .entry)) (written (now (buffer .entry)) at (F.Header metal marks Form.Short)) ⌝ }
 {
-    let form = Form::Short;
-    write(buffer, at, Field::Header { metal, marks, form }, next)
+    write(buffer, at, headed(metal, marks, Form::Short), next)
 }
 
 #[no_mangle]
@@ -368,7 +374,7 @@ pub extern "C" fn bliskoru_write_long_header(
     ensures { λ _. ⌜ now (next .exit) ≡ saidNext (now (next .entry)) (written (now (buffer .entry)) at (F.Header metal marks (Form.Long third))) ⌝ }
 {
     let form = Form::Long(third);
-    write(buffer, at, Field::Header { metal, marks, form }, next)
+    write(buffer, at, headed(metal, marks, form), next)
 }
 
 #[no_mangle]
