@@ -143,16 +143,11 @@ pub fn after_previous(p: Progress, instrument: u8) -> Progress
     requires { ⌜ p .count < 1048576 ⌝ }
     ensures { λ r. ⌜ r ≡ Admitting.afterPrevious p instrument ⌝ }
 {
-    let form = p.form;
-    Progress {
-        stage: 1,
-        metal: p.metal,
-        marks: p.marks,
-        form,
-        instrument: instrument as u16 + 1,
-        time: p.time,
-        count: p.count + 1,
-    }
+    let mut next = p;
+    next.stage = 1;
+    next.instrument = instrument as u16 + 1;
+    next.count = p.count + 1;
+    next
 }
 
 // What is kept behind a trade or a quote.
@@ -160,16 +155,11 @@ pub fn after_record(p: Progress, time: u32) -> Progress
     requires { ⌜ p .count < 1048576 ⌝ }
     ensures { λ r. ⌜ r ≡ Admitting.afterRecord p time ⌝ }
 {
-    let form = p.form;
-    Progress {
-        stage: 2,
-        metal: p.metal,
-        marks: p.marks,
-        form,
-        instrument: p.instrument,
-        time,
-        count: p.count + 1,
-    }
+    let mut next = p;
+    next.stage = 2;
+    next.time = time;
+    next.count = p.count + 1;
+    next
 }
 
 // What is kept behind the header.

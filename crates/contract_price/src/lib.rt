@@ -115,7 +115,8 @@ fn answer_by_row(
     rounded(mean, s.lots, step_by(metal, row.step))
 }
 
-// The answer of a contract, with what is known before it: where 3M is that contract, 3M's. The tables, the totals and the closes are lent: copies cost more than the pricing.
+// The answer of a contract, with what is known before it: where 3M is that contract, 3M's. The tables, the totals and the closes are lent: copies
+// cost more than the pricing.
 pub fn price_one(
     sheet: &[u8],
     metal: u8,

@@ -34,8 +34,8 @@ tagOf (Trade time instrument price lots) = 3
 tagOf (Quote time instrument sides bid offer) = 4
 tagOf (End count) = 5
 
--- a field's body: header, metal (1), marks (2), in a long one the third value (1); previous close, instrument (1), price (4); trade, time (4), instrument (1), price (4),
--- lots (2); quote, time (4), instrument (1), sides (1), bid (4), offer (4); end, count of fields before it (4)
+-- a field's body: header, metal (1), marks (2), in a long one the third value (1); previous close, instrument (1), price (4); trade, time (4),
+-- instrument (1), price (4), lots (2); quote, time (4), instrument (1), sides (1), bid (4), offer (4); end, count of fields before it (4)
 abbrev pub priceBytes : Price → List ℕ
 priceBytes price = signedBytes (price .cents)
 

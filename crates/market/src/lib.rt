@@ -3,7 +3,7 @@ ghost use mathlib.Core.Path.{_≡_};
 ghost use mathlib.Core.Bool.{cond};
 ghost use lib.Dec.{eqb};
 ghost use Rattle.market.specs.Market.{metalOf, contracts, contractBy, instruments, rowLeg, legOf, startOf, inWindow, marked, named, barred};
-ghost use Rattle.market.specs.laws.Rows.{startIn, barsOf, barBit};
+ghost use Rattle.market.specs.laws.Rows.{startIn, bitOf, hasBit};
 
 // A metal's spread start and anchor start, in milliseconds of the day, and its 3M step, in cents.
 pub struct Metal {
@@ -79,6 +79,15 @@ const INSTRUMENTS: [[u8; 2]; 12] = [
     [M1, THREE_M],
     [M1, M4],
     [CASH, M1],
+];
+
+// By the header's third value, 1 and 2: the contract that 3M is, and the instruments on which no field may be then, bit i for instrument i. With any
+// other there are none.
+const NAMED: [usize; 2] = [M3 as usize, M4 as usize];
+
+const BARRED: [u16; 2] = [
+    1 << 1 | 1 << 2 | 1 << 6 | 1 << 9,
+    1 << 4 | 1 << 5 | 1 << 6 | 1 << 10,
 ];
 
 // The row of a metal, 1 to 5; of any other metal a row of zeros.
@@ -205,38 +214,39 @@ pub fn is_marked(marks: u16, instrument: u8) -> bool
     false
 }
 
-// Whether 3M is this contract, by the header's third value: M3 with 1, M4 with 2.
+// Whether 3M is this contract, by the header's third value.
 pub fn is_named(third: u8, contract: usize) -> bool
     ensures { λ r. ⌜ r ≡ named third contract ⌝ }
 {
-    match third {
-        1 => contract == M3 as usize,
-        2 => contract == M4 as usize,
-        _ => false,
+    if 0 < third {
+        if third <= 2 {
+            return contract == NAMED[third as usize - 1];
+        }
     }
+    false
 }
 
-// The instruments on which no field may be, by the header's third value: bit i for instrument i.
-fn bars_of(third: u8) -> u16
-    ensures { λ r. ⌜ r ≡ barsOf third ⌝ }
-{
-    match third {
-        1 => 0b0010_0100_0110,
-        2 => 0b0100_0111_0000,
-        _ => 0,
-    }
-}
-
-// The bit of an instrument among them. What is no instrument has bit 12, which none of them has, so that no branch asks for it.
-fn bar_bit(instrument: u8) -> u8
-    ensures { λ r. ⌜ r ≡ barBit instrument ⌝ }
+// The bit of an instrument in a row of them. What is no instrument has bit 12, which no row has, so that no branch asks for it.
+fn bit_of(instrument: u8) -> u8
+    ensures { λ r. ⌜ r ≡ bitOf instrument ⌝ }
 {
     if instrument < 12 { instrument } else { 12 }
+}
+
+fn has_bit(row: u16, instrument: u8) -> bool
+    ensures { λ r. ⌜ r ≡ hasBit row instrument ⌝ }
+{
+    (row >> bit_of(instrument)) % 2 == 1
 }
 
 // Whether no field may be on the instrument, by the header's third value.
 pub fn is_barred(third: u8, instrument: u8) -> bool
     ensures { λ r. ⌜ r ≡ barred third instrument ⌝ }
 {
-    (bars_of(third) >> bar_bit(instrument)) % 2 == 1
+    if 0 < third {
+        if third <= 2 {
+            return has_bit(BARRED[third as usize - 1], instrument);
+        }
+    }
+    false
 }

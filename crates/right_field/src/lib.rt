@@ -1,4 +1,5 @@
-// Whether a right field of a tag stands at a place of a sheet, judged by itself and its time put aside: one look at its bytes, and no field is made. What a field that is not right earns, `field_reader` and `admit` say. Hosts don't call it.
+// Whether a right field of a tag stands at a place of a sheet, judged by itself and its time put aside: one look at its bytes, and no field is made.
+// What a field that is not right earns, `field_reader` and `admit` say. Hosts don't call it.
 ghost use mathlib.Core.Path.{_≡_};
 ghost use Prim.Native.Nat.{_≤_};
 ghost use lib.ListN.{length};

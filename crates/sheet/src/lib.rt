@@ -8,7 +8,7 @@ ghost use Rattle.field.specs.Judging.{both, thirdOf, allowed};
 ghost use Rattle.admit.specs.Admitting.{start, afterHeader, previousPlaced};
 ghost use Rattle.sheet.specs.Judgement.{atEnd, judgeSheet, judgedSays};
 ghost use Rattle.sheet.specs.laws.Track.{OnTrack};
-ghost use Rattle.sheet.specs.laws.Past.{rightSize, recordSize, Opened, Nearly};
+ghost use Rattle.sheet.specs.laws.Past.{sizeBy, formIn, rightSize, recordSize, Opened, Nearly};
 use admit::Admitted;
 use admit::Progress;
 use admit::admit;
@@ -84,6 +84,30 @@ fn number_behind(sheet: &[u8], at: usize) -> u32
     )
 }
 
+// How many bytes a right header at the sheet's start has, by its form; 0 where none stands there.
+fn header_size(sheet: &[u8]) -> usize
+    ensures { λ r. ⌜ r ≡ sizeBy 1 6 (now (sheet .entry)) 0 ⌝ }
+{
+    if right_header(sheet, 0) {
+        return 6;
+    }
+    if right_long_header(sheet, 0) {
+        return 7;
+    }
+    0
+}
+
+// The form of a header of so many bytes at the sheet's start.
+fn header_form(sheet: &[u8], size: usize) -> Form
+    requires { ⌜ size ≤ length (now sheet) ⌝ }
+    ensures { λ r. ⌜ r ≡ formIn (now (sheet .entry)) size ⌝ }
+{
+    if size == 7 {
+        return Form::Long(sheet[6]);
+    }
+    Form::Short
+}
+
 // What is kept behind a header of this form at the sheet's start.
 fn header_kept(sheet: &[u8], form: Form) -> Progress
     requires { ⌜ 6 ≤ length (now sheet) ⌝ }
@@ -92,16 +116,12 @@ fn header_kept(sheet: &[u8], form: Form) -> Progress
     after_header(begin(), sheet[3], join2(sheet[4], sheet[5]), form)
 }
 
-// The header bars no field on the instrument: most bar none.
+// The header bars no field on the instrument.
 fn is_let(p: Progress, instrument: u8) -> bool
     ensures { λ r. ⌜ r ≡ allowed (thirdOf (p .form)) instrument ⌝ }
 {
     let form = p.form;
-    let third = third_of(form);
-    if third == 0 {
-        return true;
-    }
-    is_allowed(third, instrument)
+    is_allowed(third_of(form), instrument)
 }
 
 // How many bytes a trade or a quote that stands at a place has, right by itself and but for its time; 0 where none does.
@@ -183,13 +203,13 @@ fn past_closes(sheet: &[u8], from: usize, before: Progress) -> Reached
     }
 }
 
-// Judges field after field from a place on: whatever may stand there.
-fn judge_from(sheet: &[u8], from: usize, before: Progress) -> Judged
-    requires { ⌜ OnTrack (now sheet) from before ⌝ }
+// Judges field after field from where one has come to: whatever may stand there.
+fn judge_from(sheet: &[u8], reached: Reached) -> Judged
+    requires { ⌜ OnTrack (now sheet) (reached .at) (reached .progress) ⌝ }
     ensures { λ r. ⌜ judgedSays r ≡ judgeSheet (now (sheet .entry)) ⌝ }
 {
-    let mut at = from;
-    let mut progress = before;
+    let mut at = reached.at;
+    let mut progress = reached.progress;
     loop {
         match shape_at(sheet, at) {
             Read::Refused(found, _) => {
@@ -212,17 +232,19 @@ fn judge_from(sheet: &[u8], from: usize, before: Progress) -> Judged
 }
 
 // Judges what stands behind the records: most often the right end.
-fn judge_end(sheet: &[u8], at: usize, progress: Progress) -> Judged
-    requires { ⌜ OnTrack (now sheet) at progress × (1 ≤ progress .stage) ⌝ }
+fn judge_end(sheet: &[u8], reached: Reached) -> Judged
+    requires { ⌜ OnTrack (now sheet) (reached .at) (reached .progress) × (1 ≤ reached .progress .stage) ⌝ }
     ensures { λ r. ⌜ judgedSays r ≡ judgeSheet (now (sheet .entry)) ⌝ }
 {
+    let at = reached.at;
+    let progress = reached.progress;
     if stands(sheet, at, layout::END) {
         let count = number_behind(sheet, at);
         if count == progress.count {
             return at_end(sheet.len(), at + 7, progress);
         }
     }
-    judge_from(sheet, at, progress)
+    judge_from(sheet, reached)
 }
 
 // Judges what stands behind a right header: goes past the right closes and records, and leaves what comes then, or all records where a time is no
@@ -236,9 +258,9 @@ fn judge_behind(sheet: &[u8], from: usize, header: Progress) -> Judged
     let records = past_records(sheet, closes.at, opened);
     let last = records.progress;
     if 86_399_999 < last.time {
-        return judge_from(sheet, closes.at, opened);
+        return judge_from(sheet, closes);
     }
-    judge_end(sheet, records.at, last)
+    judge_end(sheet, records)
 }
 
 // Judges a sheet: its length, then its fields.
@@ -248,12 +270,11 @@ pub fn judge_sheet(sheet: &[u8]) -> Judged
     if 1_048_576 < sheet.len() {
         return Judged::Refused(number::LONG, 0);
     }
-    if right_header(sheet, 0) {
-        return judge_behind(sheet, 6, header_kept(sheet, Form::Short));
+    let size = header_size(sheet);
+    if size == 0 {
+        let progress = begin();
+        return judge_from(sheet, Reached { at: 0, progress });
     }
-    if right_long_header(sheet, 0) {
-        let third = sheet[6];
-        return judge_behind(sheet, 7, header_kept(sheet, Form::Long(third)));
-    }
-    judge_from(sheet, 0, begin())
+    let form = header_form(sheet, size);
+    judge_behind(sheet, size, header_kept(sheet, form))
 }

@@ -34,16 +34,9 @@ fn capped_at(p: Progress) -> Progress
     if p.count <= 1_048_575 {
         return p;
     }
-    let form = p.form;
-    Progress {
-        stage: p.stage,
-        metal: p.metal,
-        marks: p.marks,
-        form,
-        instrument: p.instrument,
-        time: p.time,
-        count: 1_048_575,
-    }
+    let mut next = p;
+    next.count = 1_048_575;
+    next
 }
 
 // The bytes with a field more, stopping above the limit.

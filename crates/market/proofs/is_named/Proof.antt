@@ -1,23 +1,28 @@
--- `market::is_named` meets its contract: each arm knows its third value. Assumes nothing.
+-- `market::is_named` meets its contract: the table has the row, or it has none. Assumes nothing.
+use native.Mathlib.Omega.{arith}
+use Rattle.market.specs.laws.Rows.{named-row, named-none, named-above}
 use borrow.Author.Needs.{needs}
-use Rattle.market.specs.laws.Rows.{in-one, named-by, named-none}
 use Rattle.market.proofs.is_named.Statement.{statement}
 use Rattle.market.proofs.is_named.Tie as tie
 
-cast-result : tie.Need-cast-result
-cast-result c = search needs
+sub-result : tie.Need-sub-result
+sub-result c = search needs
 
-cast-result-2 : tie.Need-cast-result-2
-cast-result-2 c = search needs
+mul-result : tie.Need-mul-result
+mul-result c = search needs
+
+array-read-result : tie.Need-array-read-result
+array-read-result c = search needs
 
 returns : tie.Need-returns
-returns c = rw (c .match .keys1) (named-by 1 _ (in-one _ _))
+returns c = named-row _ _ (omega arith) (omega arith)
 
 returns-2 : tie.Need-returns-2
-returns-2 c = rw (c .match .keys2) (named-by 2 _ (in-one _ _))
+returns-2 c = named-above _ _ (omega arith)
 
 returns-3 : tie.Need-returns-3
-returns-3 c = named-none _ _ (c .match .rest .0 .1) (c .match .rest .1)
+returns-3 c = named-none _ _ (omega arith)
 
 pub is-named-spec : {M : Type 1} → statement M
-is-named-spec = tie.close (tie.spec cast-result cast-result-2 returns returns-2 returns-3)
+is-named-spec =
+    tie.close (tie.spec sub-result mul-result array-read-result returns returns-2 returns-3)

@@ -3,17 +3,17 @@
 use Prim.Native.Nat.{ℕ, zero, suc, _+_, _-_, _/_, _%_, _^_, _≤_, _<_}
 use mathlib.Core.Path.{_≡_, refl, sym, ap, _∙_}
 use mathlib.Core.Bool.{Bool, true, false, not, _||_, cond}
-use mathlib.Core.List.{[], _∷_}
+use mathlib.Core.List.{List, [], _∷_}
 use native.Mathlib.Nat.{div-eq-of-lt, pow-le-pow-right, lt-of-lt-of-le}
 use native.Mathlib.Decide.{decLt}
 use native.Mathlib.Omega.{arith}
 use borrow.Author.Tests.{le-leb, lt-leb, lt-ltb, le-ltb, leb-true, ltb-true, ltb-false, ne-eqb}
 use lib.Dec.{T, leb, ltb, eqb}
-use lib.ListN.{getD, List·getD-eq-default}
-use Rattle.market.specs.laws.Table.{below}
+use lib.ListN.{getD, length, List·getD-eq-default}
+use Rattle.market.specs.laws.Table.{both, both-left, both-right, upTo, below}
 use Rattle.market.specs.declared.Metal.{Metal}
 use Rattle.market.specs.declared.Leg.the-variants.{Outright}
-use Rattle.market.specs.Market.{metals, metalBy, metalOf, contracts, contractBy, contractOf, instruments, rowLeg, legOf, startOf, windowLength, inWindow, marked, namedBy, isIn, named, barred}
+use Rattle.market.specs.Market.{metals, metalBy, metalOf, contracts, contractBy, contractOf, instruments, rowLeg, legOf, startOf, windowLength, inWindow, marked, namedBy, barredBy, isIn, named, barred}
 
 -- the number itself, for a proof that asks for it
 pub window-length : windowLength ≡ 300000
@@ -86,40 +86,45 @@ marked-above marks i m h =
     let small : marks < 2 ^ (i - 1) = lt-of-lt-of-le m (pow-le-pow-right {n = 2} (omega arith) {i = 16} {j = i - 1} (omega arith)) in
     marked-at marks i (λ e. omega arith) ∙ simp (div-eq-of-lt small)
 
--- ---- a number in a row of one, as the code compares
+-- ---- the contract that 3M is, and the barred instruments, as the code counts: rows for 1 and 2 alone
 
-pub in-one : (n a : ℕ) → eqb n a ≡ isIn n (a ∷ [])
+rowed : (P : ℕ → Type 0) → P 1 → P 2 → (third : ℕ) → 0 < third → third ≤ 2 → P third
+rowed P one two zero low high = absurd (omega arith)
+rowed P one two (suc zero) low high = one
+rowed P one two (suc (suc zero)) low high = two
+rowed P one two (suc (suc (suc n))) low high = absurd (omega arith)
+
+-- a contract in a row of one
+in-one : (n m : ℕ) → eqb n m ≡ isIn n (m ∷ [])
 unfolding isIn
-in-one n a = by-test (eqb n a)
+in-one n m = by-test (eqb n m)
   where
     by-test : (t : Bool) → t ≡ (t || false)
     by-test true = refl
     by-test false = refl
 
--- ---- the contract that 3M is: no row but for 1 and 2
-
-pub named-by : (third contract : ℕ) {t : Bool} → t ≡ isIn contract (getD namedBy third []) → t ≡ named third contract
+pub named-row : (third contract : ℕ) → 0 < third → third ≤ 2 → eqb contract (getD (1 ∷ 3 ∷ []) (third - 1) 0) ≡ named third contract
 unfolding named
-named-by third contract e = e
+named-row third contract = rowed (λ t. eqb contract (getD (1 ∷ 3 ∷ []) (t - 1) 0) ≡ named t contract) (in-one contract 1) (in-one contract 3) third
 
-pub named-none : (third contract : ℕ) → (third ≡ 1 → ⊥) → (third ≡ 2 → ⊥) → false ≡ named third contract
-unfolding named isIn
-named-none zero contract one two = refl
-named-none (suc zero) contract one two = absurd (one refl)
-named-none (suc (suc zero)) contract one two = absurd (two refl)
-named-none (suc (suc (suc n))) contract one two = refl
+-- an instrument's bit, in a row of bits; a number that is none has 12
+unfoldable pub bitOf : ℕ → ℕ
+bitOf i = cond (ltb i 12) i 12
 
--- ---- the barred instruments as bits
+abbrev pub hasBit : ℕ → ℕ → Bool
+hasBit row i = eqb (row / 2 ^ bitOf i % 2) 1
 
-unfoldable pub barsOf : ℕ → ℕ
-barsOf third = getD (0 ∷ 582 ∷ 1136 ∷ []) third 0
+pub bit-small : (i : ℕ) → bitOf i < 16
+unfolding bitOf
+bit-small i = by-test (ltb i 12) refl
+  where
+    by-test : (t : Bool) → ltb i 12 ≡ t → cond t i 12 < 16
+    by-test true e = let h : i < 12 = ltb-true i 12 e in omega arith
+    by-test false e = omega arith
 
-pub bars-none : (third : ℕ) → (third ≡ 1 → ⊥) → (third ≡ 2 → ⊥) → 0 ≡ barsOf third
-unfolding barsOf
-bars-none zero one two = refl
-bars-none (suc zero) one two = absurd (one refl)
-bars-none (suc (suc zero)) one two = absurd (two refl)
-bars-none (suc (suc (suc n))) one two = refl
+holds : (t : Bool) → T t → t ≡ true
+holds true h = refl
+holds false h = absurd h
 
 -- two tests say the same
 abbrev agree : Bool → Bool → Bool
@@ -131,38 +136,65 @@ agree-is true false h = absurd h
 agree-is false true h = absurd h
 agree-is false false h = refl
 
--- an instrument's bit; a number that is none has 12
-unfoldable pub barBit : ℕ → ℕ
-barBit i = cond (ltb i 12) i 12
+-- a row of bits has just the instruments of a list, by one computed test: bit for bit, not bit 12, and none of the list above 11
+abbrev lows : List ℕ → Bool
+lows [] = true
+lows (m ∷ ms) = both (ltb m 12) (lows ms)
 
-pub bit-small : (i : ℕ) → barBit i < 16
-unfolding barBit
-bit-small i = by-test (ltb i 12) refl
+abbrev sameBits : ℕ → List ℕ → ℕ → Bool
+sameBits row is i = agree (eqb (row / 2 ^ i % 2) 1) (isIn i is)
+
+abbrev lists : ℕ → List ℕ → Bool
+lists row is = both (upTo (sameBits row is) 12) (both (agree (eqb (row / 2 ^ 12 % 2) 1) false) (lows is))
+
+none-above : (is : List ℕ) (i : ℕ) → 12 ≤ i → T (lows is) → isIn i is ≡ false
+unfolding isIn
+none-above [] i h t = refl
+none-above (m ∷ ms) i h t = simp (ne-eqb i m (λ e. omega (arith, low))) (none-above ms i h (both-right (ltb m 12) (lows ms) t))
   where
-    by-test : (t : Bool) → ltb i 12 ≡ t → cond t i 12 < 16
-    by-test true e = let h : i < 12 = ltb-true i 12 e in omega arith
-    by-test false e = omega arith
+    low : m < 12
+    low = ltb-true m 12 (holds (ltb m 12) (both-left (ltb m 12) (lows ms) t))
 
--- each bit of a row, by one computed test over the twelve instruments
-in-row : (third i : ℕ) → i < 12 → eqb (barsOf third / 2 ^ i % 2) 1 ≡ barred third i
-unfolding barsOf barred isIn
-in-row zero i h = agree-is _ _ (below (λ i. agree (eqb (0 / 2 ^ i % 2) 1) false) 12 i tt h)
-in-row (suc zero) i h = agree-is _ _ (below (λ i. agree (eqb (582 / 2 ^ i % 2) 1) (isIn i (1 ∷ 2 ∷ 6 ∷ 9 ∷ []))) 12 i tt h)
-in-row (suc (suc zero)) i h = agree-is _ _ (below (λ i. agree (eqb (1136 / 2 ^ i % 2) 1) (isIn i (4 ∷ 5 ∷ 6 ∷ 10 ∷ []))) 12 i tt h)
-in-row (suc (suc (suc n))) i h = agree-is _ _ (below (λ i. agree (eqb (0 / 2 ^ i % 2) 1) false) 12 i tt h)
-
--- no row has an instrument above 11, nor bit 12
-above : (third i : ℕ) → 12 ≤ i → eqb (barsOf third / 2 ^ 12 % 2) 1 ≡ barred third i
-unfolding barsOf barred isIn
-above zero i h = refl
-above (suc zero) i h = simp (ne-eqb i 1 (λ e. omega arith), ne-eqb i 2 (λ e. omega arith), ne-eqb i 6 (λ e. omega arith), ne-eqb i 9 (λ e. omega arith))
-above (suc (suc zero)) i h = simp (ne-eqb i 4 (λ e. omega arith), ne-eqb i 5 (λ e. omega arith), ne-eqb i 6 (λ e. omega arith), ne-eqb i 10 (λ e. omega arith))
-above (suc (suc (suc n))) i h = refl
-
-pub barred-bit : (third i : ℕ) → eqb (barsOf third / 2 ^ barBit i % 2) 1 ≡ barred third i
-unfolding barBit
-barred-bit third i = by-test (ltb i 12) refl
+row-bits : (row : ℕ) (is : List ℕ) → T (lists row is) → (i : ℕ) → hasBit row i ≡ isIn i is
+unfolding bitOf
+row-bits row is t i = by-test (ltb i 12) refl
   where
-    by-test : (t : Bool) → ltb i 12 ≡ t → eqb (barsOf third / 2 ^ cond t i 12 % 2) 1 ≡ barred third i
-    by-test true e = in-row third i (ltb-true i 12 e)
-    by-test false e = above third i (ltb-false i 12 e)
+    low : Bool
+    low = agree (eqb (row / 2 ^ 12 % 2) 1) false
+
+    rest : T (both low (lows is))
+    rest = both-right (upTo (sameBits row is) 12) (both low (lows is)) t
+
+    by-test : (l : Bool) → ltb i 12 ≡ l → eqb (row / 2 ^ cond l i 12 % 2) 1 ≡ isIn i is
+    by-test true e = agree-is (eqb (row / 2 ^ i % 2) 1) (isIn i is) (below (sameBits row is) 12 i (both-left (upTo (sameBits row is) 12) (both low (lows is)) t) (ltb-true i 12 e))
+    by-test false e = agree-is (eqb (row / 2 ^ 12 % 2) 1) false (both-left low (lows is) rest) ∙ sym (none-above is i (ltb-false i 12 e) (both-right low (lows is) rest))
+
+pub barred-row : (third i : ℕ) → 0 < third → third ≤ 2 → hasBit (getD (582 ∷ 1136 ∷ []) (third - 1) 0) i ≡ barred third i
+unfolding barred isIn
+barred-row third i =
+    rowed (λ t. hasBit (getD (582 ∷ 1136 ∷ []) (t - 1) 0) i ≡ barred t i)
+    (row-bits 582 (1 ∷ 2 ∷ 6 ∷ 9 ∷ []) tt i)
+    (row-bits 1136 (4 ∷ 5 ∷ 6 ∷ 10 ∷ []) tt i)
+    third
+
+-- no row
+no-row : (rows : List (List ℕ)) (third n : ℕ) → length rows ≤ third → false ≡ isIn n (getD rows third [])
+unfolding isIn
+no-row rows third n h = rw (List·getD-eq-default rows [] h) refl
+
+module _ (third n : ℕ) where
+  pub named-none : third ≡ 0 → false ≡ named third n
+  unfolding named isIn
+  named-none z = rw z refl
+
+  pub named-above : 2 < third → false ≡ named third n
+  unfolding named
+  named-above h = no-row namedBy third n h
+
+  pub barred-none : third ≡ 0 → false ≡ barred third n
+  unfolding barred isIn
+  barred-none z = rw z refl
+
+  pub barred-above : 2 < third → false ≡ barred third n
+  unfolding barred
+  barred-above h = no-row barredBy third n h

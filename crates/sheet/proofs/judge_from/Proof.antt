@@ -8,10 +8,10 @@ use Rattle.sheet.proofs.judge_from.Tie as tie
 ruleset judging = (at-refusal, at-room, at-stop, at-last, at-next, less-read, needs)
 
 abbrev Inv-loop : tie.InvT-loop
-Inv-loop sheet from at₀ progress₀ at progress = OnTrack sheet at progress
+Inv-loop sheet at₀ progress₀ at progress = OnTrack sheet at progress
 
 abbrev μ-loop : tie.MeasureT-loop
-μ-loop sheet from at₀ progress₀ at progress = left sheet at
+μ-loop sheet at₀ progress₀ at progress = left sheet at
 
 loop-holds : tie.Need-loop-holds Inv-loop μ-loop
 loop-holds c = search judging

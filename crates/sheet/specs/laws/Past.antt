@@ -6,21 +6,21 @@ use Prim.Native.Nat.{ℕ, _+_, _<_, _≤_}
 use mathlib.Core.Path.{_≡_, refl, sym, ap, _∙_}
 use mathlib.Core.Bool.{Bool, true, false, cond}
 use mathlib.Core.List.{List}
+use mathlib.Core.Logic.{_⊎_, inl, inr}
 use native.Mathlib.Omega.{arith}
 use borrow.Author.Tests.{le-leb, eq-eqb}
-use lib.Dec.{leb}
+use lib.Dec.{leb, eqb}
 use lib.ListN.{length, getD, take, drop}
 use mir.Syntax.{w64}
 use mir.Val.{Fits}
 use Rattle.wire.specs.Big.{be2At, be4At}
-use Rattle.market.specs.Market.{isIn, barred}
 use Rattle.field.specs.declared.Form.{Form}
 use Rattle.field.specs.declared.Form.the-variants.{Short, Long}
 use Rattle.field.specs.declared.Before.{Before}
 use Rattle.field.specs.declared.Field.{Field}
 use Rattle.field.specs.Said.{gives}
 use Rattle.field.specs.Judging.{fine, both, thirdOf, allowed, judge}
-use Rattle.field.specs.Layout.{lengthOf, sizeOf, fieldOf}
+use Rattle.field.specs.Layout.{tagRight, lengthOf, sizeOf, fieldOf}
 use Rattle.field.specs.Reading.{bodyAt, shapeAt}
 use Rattle.field.specs.laws.Field.{both-true, unless-passed}
 use Rattle.field.specs.laws.Standing.{stands, stands-whole, Stood, stood, stood-shape, fieldAt, body-number, body-first, body-second, body-fourth, body-fifth}
@@ -40,15 +40,6 @@ takes p f room values place counted = passed-taken p f (record { room = room; pl
 pub right-whole : (s : List ℕ) (at tag : ℕ) {t : Bool} → t ≡ rightAt s at tag → t ≡ true → at + sizeOf tag ≤ length s
 right-whole s at tag e h = stands-whole s at tag refl (both-true (stands s at tag) _ (sym e ∙ h) .0)
 
--- 0 bars no instrument; another third value bars by its row
-module _ (instrument : ℕ) {third n : ℕ} (e : third ≡ n) where
-  pub let-none : third ≡ 0 → true ≡ allowed n instrument
-  unfolding barred isIn
-  let-none z = rw (sym e ∙ z) refl
-
-  pub let-by : {t : Bool} → t ≡ allowed third instrument → t ≡ allowed n instrument
-  let-by k = k ∙ rw e refl
-
 -- two tests one after the other, as the code has them
 module _ (a b : Bool) {t : Bool} (e : t ≡ a) where
   pub both-first : t ≡ true → {u : Bool} → u ≡ b → u ≡ both a b
@@ -58,6 +49,38 @@ module _ (a b : Bool) {t : Bool} (e : t ≡ a) where
   pub both-not : t ≡ false → false ≡ both a b
   unfolding both
   both-not h = rw (sym e ∙ h) refl
+
+-- the size of the right field that stands there, of one tag or of another; 0 where none does
+unfoldable pub sizeBy : ℕ → ℕ → List ℕ → ℕ → ℕ
+sizeBy a b s at = cond (rightAt s at a) (sizeOf a) (cond (rightAt s at b) (sizeOf b) 0)
+
+-- which of them it is, as the code has it
+module _ (a b : ℕ) (s : List ℕ) (at : ℕ) {t : Bool} (e : t ≡ rightAt s at a) where
+  pub size-first : t ≡ true → sizeOf a ≡ sizeBy a b s at
+  unfolding sizeBy
+  size-first h = rw (sym e ∙ h)
+
+  module _ (h : t ≡ false) {q : Bool} (k : q ≡ rightAt s at b) where
+    pub size-second : q ≡ true → sizeOf b ≡ sizeBy a b s at
+    unfolding sizeBy
+    size-second l = rw (sym e ∙ h, sym k ∙ l)
+
+    pub size-none : q ≡ false → 0 ≡ sizeBy a b s at
+    unfolding sizeBy
+    size-none l = rw (sym e ∙ h, sym k ∙ l)
+
+-- one of them stands there
+abbrev OneOf : ℕ → ℕ → List ℕ → ℕ → ℕ → Type 0
+OneOf a b s at size = (Right s at a × (size ≡ sizeOf a)) ⊎ (Right s at b × (size ≡ sizeOf b))
+
+one-of : (a b : ℕ) → tagRight a ≡ true → tagRight b ≡ true → (s : List ℕ) (at : ℕ) {size : ℕ} → size ≡ sizeBy a b s at → (size ≡ 0 → ⊥) → OneOf a b s at size
+unfolding sizeBy
+one-of a b low high s at {size} e some = by-test (rightAt s at a) (rightAt s at b) refl refl e
+  where
+    by-test : (t q : Bool) → rightAt s at a ≡ t → rightAt s at b ≡ q → size ≡ cond t (sizeOf a) (cond q (sizeOf b) 0) → OneOf a b s at size
+    by-test true q h k z = inl (right s at a low h, z)
+    by-test false true h k z = inr (right s at b high k, z)
+    by-test false false h k z = absurd (some z)
 
 -- ---- a header, and the closes behind it
 
@@ -77,14 +100,9 @@ long-goes s r =
     takes start (fieldAt s 0 6) (omega arith) (r .values) refl refl
     ∙ rw (body-first s 0 4 (omega arith), body-second s 0 4 (omega arith), body-fourth s 0 4 (omega arith))
 
-pub short-inside : (s : List ℕ) {t : Bool} → t ≡ rightAt s 0 1 → t ≡ true → 6 ≤ length s
-short-inside s e h = right-whole s 0 1 e h
-
-pub long-inside : (s : List ℕ) {t : Bool} → t ≡ rightAt s 0 6 → t ≡ true → 7 ≤ length s
-long-inside s e h = right-whole s 0 6 e h
-
-pub long-room : (s : List ℕ) {t : Bool} → t ≡ rightAt s 0 6 → t ≡ true → 6 ≤ length s
-long-room s e h = omega (arith, long-inside s e h)
+-- the form of a header of so many bytes
+unfoldable pub formIn : List ℕ → ℕ → Form
+formIn s size = cond (eqb size 7) (Long (getD s 6 0)) Short
 
 -- what is kept behind it
 pub header-room : {p : Progress} → p ≡ start → p .count < 1048576
@@ -93,18 +111,31 @@ header-room e = rw e (omega arith)
 pub header-kept : (s : List ℕ) (form : Form) {p q : Progress} {marks : ℕ} → p ≡ start → marks ≡ be2At s 4 → q ≡ afterHeader p (getD s 3 0) marks form → q ≡ afterHeader start (getD s 3 0) (be2At s 4) form
 header-kept s form b m k = k ∙ rw (b, m)
 
-module _ (s : List ℕ) {t : Bool} {p : Progress} (h : t ≡ true) (small : length s ≤ 1048576) where
-  pub opened-short : t ≡ rightAt s 0 1 → p ≡ afterHeader start (getD s 3 0) (be2At s 4) Short → Opened s 6 p
+module _ (s : List ℕ) {size : ℕ} (e : size ≡ sizeBy 1 6 s 0) (some : size ≡ 0 → ⊥) where
+  header-is : OneOf 1 6 s 0 size
   unfolding both
-  opened-short e k =
-      let r = right s 0 1 refl (sym e ∙ h) in
-      rw k (record { track = on-next s 0 start (at-start s refl small) (stood-shape s 0 1 (r .stands-there)) (short-goes s r); first = refl })
+  header-is = one-of 1 6 refl refl s 0 e some
 
-  pub opened-long : t ≡ rightAt s 0 6 → p ≡ afterHeader start (getD s 3 0) (be2At s 4) (Long (getD s 6 0)) → Opened s 7 p
-  unfolding both
-  opened-long e k =
-      let r = right s 0 6 refl (sym e ∙ h) in
-      rw k (record { track = on-next s 0 start (at-start s refl small) (stood-shape s 0 6 (r .stands-there)) (long-goes s r); first = refl })
+  header-bytes : (size ≤ length s) × (6 ≤ size)
+  header-bytes = by header-is
+    where
+      by : OneOf 1 6 s 0 size → (size ≤ length s) × (6 ≤ size)
+      by (inl (r, z)) = let whole = shape-grows s 0 (stood-shape s 0 1 (r .stands-there)) .1 in (omega (arith, whole, z), omega (arith, z))
+      by (inr (r, z)) = let whole = shape-grows s 0 (stood-shape s 0 6 (r .stands-there)) .1 in (omega (arith, whole, z), omega (arith, z))
+
+  pub header-inside : size ≤ length s
+  header-inside = header-bytes .0
+
+  pub header-whole : 6 ≤ length s
+  header-whole = omega (arith, header-bytes)
+
+  pub opened : length s ≤ 1048576 → {form : Form} {p : Progress} → form ≡ formIn s size → p ≡ afterHeader start (getD s 3 0) (be2At s 4) form → Opened s size p
+  unfolding formIn
+  opened small {form} {p} f k = by header-is
+    where
+      by : OneOf 1 6 s 0 size → Opened s size p
+      by (inl (r, z)) = rw (k, f, z) (record { track = on-next s 0 start (at-start s refl small) (stood-shape s 0 1 (r .stands-there)) (short-goes s r); first = refl })
+      by (inr (r, z)) = rw (k, f, z) (record { track = on-next s 0 start (at-start s refl small) (stood-shape s 0 6 (r .stands-there)) (long-goes s r); first = refl })
 
 module _ (s : List ℕ) (at : ℕ) (p : Progress) (o : Opened s at p) {t : Bool} (e : t ≡ rightAt s at 2) (h : t ≡ true) where
   close-right : Right s at 2
@@ -133,9 +164,9 @@ module _ (s : List ℕ) (at : ℕ) (p : Progress) (o : Opened s at p) {t : Bool}
 
 -- ---- records
 
--- what stands there, by its size; and where its instrument is let be
-unfoldable pub rightSize : List ℕ → ℕ → ℕ
-rightSize s at = cond (rightAt s at 3) 14 (cond (rightAt s at 4) 17 0)
+-- a trade or a quote, where its instrument is let be
+abbrev pub rightSize : List ℕ → ℕ → ℕ
+rightSize s at = sizeBy 3 4 s at
 
 unfoldable pub recordSize : List ℕ → ℕ → ℕ → ℕ
 recordSize s at third = cond (allowed third (getD s (at + 7) 0)) (rightSize s at) 0
@@ -170,42 +201,27 @@ quote-recorded : (s : List ℕ) (at : ℕ) → Right s at 4 → Recorded s at 17
 unfolding fieldOf placed countNumber admitted
 quote-recorded s at r = recorded-at s at 4 r (omega arith) (λ p. refl) (λ p. refl) (λ p. refl) (λ b a t. (a, t))
 
+record-is : (s : List ℕ) (at : ℕ) {size : ℕ} → size ≡ rightSize s at → (size ≡ 0 → ⊥) → OneOf 3 4 s at size
+unfolding both
+record-is s at e some = one-of 3 4 refl refl s at e some
+
 recorded : (s : List ℕ) (at : ℕ) {size : ℕ} → size ≡ rightSize s at → (size ≡ 0 → ⊥) → Recorded s at size
-unfolding rightSize both
-recorded s at {size} e some = by-test (rightAt s at 3) (rightAt s at 4) refl refl e
+recorded s at {size} e some = by (record-is s at e some)
   where
-    by-test : (t q : Bool) → rightAt s at 3 ≡ t → rightAt s at 4 ≡ q → size ≡ cond t 14 (cond q 17 0) → Recorded s at size
-    by-test true q h k z = rw z (trade-recorded s at (right s at 3 refl h))
-    by-test false true h k z = rw z (quote-recorded s at (right s at 4 refl k))
-    by-test false false h k z = absurd (some z)
-
--- which of them it is, as the code has it
-module _ (s : List ℕ) (at : ℕ) {t : Bool} (e : t ≡ rightAt s at 3) where
-  pub size-trade : t ≡ true → 14 ≡ rightSize s at
-  unfolding rightSize
-  size-trade h = rw (sym e ∙ h)
-
-  module _ (h : t ≡ false) {q : Bool} (k : q ≡ rightAt s at 4) where
-    pub size-quote : q ≡ true → 17 ≡ rightSize s at
-    unfolding rightSize
-    size-quote l = rw (sym e ∙ h, sym k ∙ l)
-
-    pub size-none : q ≡ false → 0 ≡ rightSize s at
-    unfolding rightSize
-    size-none l = rw (sym e ∙ h, sym k ∙ l)
+    by : OneOf 3 4 s at size → Recorded s at size
+    by (inl (r, z)) = rw z (trade-recorded s at r)
+    by (inr (r, z)) = rw z (quote-recorded s at r)
 
 -- its bytes are in the sheet; the shortest record has fourteen
 pub right-inside : (s : List ℕ) (at : ℕ) {size : ℕ} → size ≡ rightSize s at → (size ≡ 0 → ⊥) → at + 8 ≤ length s
-unfolding rightSize
-right-inside s at {size} e some = by-test (rightAt s at 3) (rightAt s at 4) e
+right-inside s at {size} e some = by (record-is s at e some)
   where
     inside : at + size ≤ length s
     inside = shape-grows s at (recorded s at e some .shape) .1
 
-    by-test : (t q : Bool) → size ≡ cond t 14 (cond q 17 0) → at + 8 ≤ length s
-    by-test true q z = omega (arith, inside, z)
-    by-test false true z = omega (arith, inside, z)
-    by-test false false z = absurd (some z)
+    by : OneOf 3 4 s at size → at + 8 ≤ length s
+    by (inl (r, z)) = omega (arith, inside, z)
+    by (inr (r, z)) = omega (arith, inside, z)
 
 -- as the code has it: none stands there, its instrument is let be, or is not
 module _ (s : List ℕ) (at third : ℕ) {size : ℕ} (e : size ≡ rightSize s at) where
