@@ -12,6 +12,10 @@ use Rattle.bliskoru.proofs.bliskoru_tape_to_sheet.Reads as tape-to-shee
 use Rattle.bliskoru.proofs.bliskoru_tape_to_sheet.Kinds as tape-to-sheetK
 use Rattle.bliskoru.proofs.bliskoru_sheet_to_tape.Reads as sheet-to-tape
 use Rattle.bliskoru.proofs.bliskoru_sheet_to_tape.Kinds as sheet-to-tapeK
+use Rattle.bliskoru.proofs.bliskoru_to_new_header.Reads as to-new-header
+use Rattle.bliskoru.proofs.bliskoru_to_new_header.Kinds as to-new-headerK
+use Rattle.bliskoru.proofs.bliskoru_to_old_header.Reads as to-old-header
+use Rattle.bliskoru.proofs.bliskoru_to_old_header.Kinds as to-old-headerK
 use Rattle.bliskoru.proofs.bliskoru_read.Reads as read
 use Rattle.bliskoru.proofs.bliskoru_read.Kinds as readK
 use Rattle.bliskoru.proofs.bliskoru_write_header.Reads as write-header
@@ -71,6 +75,30 @@ sheet-to-tape-length-once κs a x y s t p q = once (p .1 .1 .0) (q .1 .1 .0)
 
 pub sheet-to-tape-place-once : Once 4 sheet-to-tapeK.ps sheet-to-tapeK.r sheet-to-tape.Post (λ κs x s. now (s .1 .1 .1 .0))
 sheet-to-tape-place-once κs a x y s t p q = once (p .1 .1 .1) (q .1 .1 .1)
+
+pub to-new-header-once : Once 4 to-new-headerK.ps to-new-headerK.r to-new-header.Post (λ κs x s. x)
+to-new-header-once κs a x y s t p q = once (p .0) (q .0)
+
+pub to-new-header-leaves-once : Once 4 to-new-headerK.ps to-new-headerK.r to-new-header.Post (λ κs x s. now (s .1 .0))
+to-new-header-leaves-once κs a x y s t p q = once (p .1 .0) (q .1 .0)
+
+pub to-new-header-length-once : Once 4 to-new-headerK.ps to-new-headerK.r to-new-header.Post (λ κs x s. now (s .1 .1 .0))
+to-new-header-length-once κs a x y s t p q = once (p .1 .1 .0) (q .1 .1 .0)
+
+pub to-new-header-place-once : Once 4 to-new-headerK.ps to-new-headerK.r to-new-header.Post (λ κs x s. now (s .1 .1 .1 .0))
+to-new-header-place-once κs a x y s t p q = once (p .1 .1 .1) (q .1 .1 .1)
+
+pub to-old-header-once : Once 4 to-old-headerK.ps to-old-headerK.r to-old-header.Post (λ κs x s. x)
+to-old-header-once κs a x y s t p q = once (p .0) (q .0)
+
+pub to-old-header-leaves-once : Once 4 to-old-headerK.ps to-old-headerK.r to-old-header.Post (λ κs x s. now (s .1 .0))
+to-old-header-leaves-once κs a x y s t p q = once (p .1 .0) (q .1 .0)
+
+pub to-old-header-length-once : Once 4 to-old-headerK.ps to-old-headerK.r to-old-header.Post (λ κs x s. now (s .1 .1 .0))
+to-old-header-length-once κs a x y s t p q = once (p .1 .1 .0) (q .1 .1 .0)
+
+pub to-old-header-place-once : Once 4 to-old-headerK.ps to-old-headerK.r to-old-header.Post (λ κs x s. now (s .1 .1 .1 .0))
+to-old-header-place-once κs a x y s t p q = once (p .1 .1 .1) (q .1 .1 .1)
 
 pub read-once : Once 3 readK.ps readK.r read.Post (λ κs x s. x)
 read-once κs a x y s t p q = once (p .0) (q .0)

@@ -13,8 +13,8 @@ use Rattle.sheet.specs.Judgement.{Verdict, accepts, refuses-at}
 use Rattle.price_rules.specs.declared.Method.{Method}
 use Rattle.price_rules.specs.declared.Method.the-variants.{Vwap, Twap}
 use Rattle.price_rules.specs.Closing.{Told, close, refused, Answers, six, none-priced}
-use Rattle.tape.specs.declared.Filled.{Filled}
-use Rattle.tape.specs.declared.Filled.the-variants as Filled
+use Rattle.filled_buffer.specs.declared.Filled.{Filled}
+use Rattle.filled_buffer.specs.declared.Filled.the-variants as Filled
 use Rattle.text.specs.declared.Put.{Put}
 use Rattle.text.specs.declared.Put.the-variants.{Next, Full}
 

@@ -1,5 +1,6 @@
-// What a C or a Rust program links: a sheet's list, its judgement and its six answers, a text turned into a sheet and back, and single fields read
-// and written, as plain numbers in lent memory. Each function takes a covered one's answer apart; a refusal's number is handed back, and 0 says yes.
+// What a C or a Rust program links: a sheet's list, its judgement and its six answers, a text turned into a sheet and back, a sheet moved to the other
+// header, and single fields read and written, as plain numbers in lent memory. Each function takes a covered one's answer apart; a refusal's number is
+// handed back, and 0 says yes.
 ghost use mathlib.Core.Path.{_≡_};
 ghost use mathlib.Core.List.{_∷_, []};
 ghost use lib.IntN.{pos};
@@ -13,7 +14,9 @@ ghost use Rattle.sheet.specs.Judgement.{judgeSheet};
 ghost use Rattle.price_rules.specs.Closing.{answersOf};
 ghost use Rattle.price_rules.specs.Says.{answerSays, closingsSay};
 ghost use Rattle.list_lines.specs.Listing.{listOf};
-ghost use Rattle.tape.specs.Tape.{tapeToSheet, sheetToTape, bufferWith, filled};
+ghost use Rattle.filled_buffer.specs.Filling.{bufferWith, filled};
+ghost use Rattle.header_mover.specs.Moving.{toNew, toOld};
+ghost use Rattle.tape.specs.Tape.{tapeToSheet, sheetToTape};
 ghost use Rattle.bliskoru.specs.Host.{filledNumber, filledLength, filledPlace, lengthOr0, verdictNumber, verdictByte, methodNumber, rowOf, rowsOf, answersNumber, answersByte, answersRows, valuesOf, saidNumber, saidNext, readValues, priceOf};
 ghost use Rattle.bliskoru.specs.laws.Host.{rowSays};
 use field::Field;
@@ -25,6 +28,9 @@ use field::judge::third_of;
 use field::layout::form_tag;
 use field_reader::read_field;
 use field_writer::write_field;
+use filled_buffer::Filled;
+use header_mover::to_new_header;
+use header_mover::to_old_header;
 use list::closing_list;
 use price_rules::Answer;
 use price_rules::Closed;
@@ -33,7 +39,6 @@ use price_rules::SixAnswers;
 use sheet::Judged;
 use sheet::judge_sheet;
 use six_answers::closings;
-use tape::Filled;
 use tape_reader::tape_to_sheet;
 use tape_writer::sheet_to_tape;
 use text::Put;
@@ -217,6 +222,38 @@ pub extern "C" fn bliskoru_sheet_to_tape(
     ensures { λ _. ⌜ now (at .exit) ≡ filledPlace (now (at .entry)) (filled (sheetToTape (ListN.length (now (tape .entry))) (now (sheet .entry)))) ⌝ }
 {
     hand_over(sheet_to_tape(sheet, tape), length, at)
+}
+
+// 0, the old sheet with the new header at the start of the buffer and its length; or the refusal's number, and its byte, 0 where it is not the sheet's own.
+#[no_mangle]
+pub extern "C" fn bliskoru_to_new_header(
+    sheet: &[u8],
+    out: &mut [u8],
+    length: &mut usize,
+    at: &mut usize,
+) -> u8
+    ensures { λ r. ⌜ r ≡ filledNumber (filled (toNew (ListN.length (now (out .entry))) (now (sheet .entry)))) ⌝ }
+    ensures { λ _. ⌜ now (out .exit) ≡ bufferWith (now (out .entry)) (toNew (ListN.length (now (out .entry))) (now (sheet .entry))) ⌝ }
+    ensures { λ _. ⌜ now (length .exit) ≡ filledLength (now (length .entry)) (filled (toNew (ListN.length (now (out .entry))) (now (sheet .entry)))) ⌝ }
+    ensures { λ _. ⌜ now (at .exit) ≡ filledPlace (now (at .entry)) (filled (toNew (ListN.length (now (out .entry))) (now (sheet .entry)))) ⌝ }
+{
+    hand_over(to_new_header(sheet, out), length, at)
+}
+
+// 0, the new sheet with the old header at the start of the buffer and its length; or the refusal's number, and its byte, 0 where it is not the sheet's own.
+#[no_mangle]
+pub extern "C" fn bliskoru_to_old_header(
+    sheet: &[u8],
+    out: &mut [u8],
+    length: &mut usize,
+    at: &mut usize,
+) -> u8
+    ensures { λ r. ⌜ r ≡ filledNumber (filled (toOld (ListN.length (now (out .entry))) (now (sheet .entry)))) ⌝ }
+    ensures { λ _. ⌜ now (out .exit) ≡ bufferWith (now (out .entry)) (toOld (ListN.length (now (out .entry))) (now (sheet .entry))) ⌝ }
+    ensures { λ _. ⌜ now (length .exit) ≡ filledLength (now (length .entry)) (filled (toOld (ListN.length (now (out .entry))) (now (sheet .entry)))) ⌝ }
+    ensures { λ _. ⌜ now (at .exit) ≡ filledPlace (now (at .entry)) (filled (toOld (ListN.length (now (out .entry))) (now (sheet .entry)))) ⌝ }
+{
+    hand_over(to_old_header(sheet, out), length, at)
 }
 
 // A value of a field as a number of 64 bits.

@@ -1,4 +1,4 @@
-// SHEET 4: the numbers that a field or a whole sheet can earn.
+// SHEET 4: the numbers that a field, a whole sheet, a text or a move can earn.
 
 // Nothing is refused.
 pub const FINE: u8 = 0;
@@ -32,3 +32,5 @@ pub const ROOM: u8 = 16;
 pub const LINE: u8 = 17;
 // An instrument that the header's third value bars.
 pub const BARRED: u8 = 18;
+// A header that has the wanted form already, or says of 3M what the wanted form cannot.
+pub const FORM: u8 = 19;

@@ -4,19 +4,17 @@ use mathlib.Core.Bool.{cond}
 use mathlib.Core.List.{List, [], _∷_, _++_}
 use lib.Dec.{eqb, leb}
 use lib.ListN.{length}
-use Rattle.text.specs.Over.{over}
 use Rattle.field.specs.declared.Field.{Field}
 use Rattle.field.specs.declared.Field.the-variants as F
 use Rattle.admit.specs.declared.Progress.{Progress}
 use Rattle.admit.specs.Admitting.{start, Step, goes, ends, stops, admit}
 use Rattle.sheet.specs.Fields.{fieldsOf, encode}
-use Rattle.sheet.specs.Judgement.{Verdict, accepts, refuses-at, judgeSheet}
+use Rattle.sheet.specs.Judgement.{Verdict, judgeSheet}
 use Rattle.items.specs.Items.{first, rest}
 use Rattle.line_reader.specs.declared.Line.{Line}
 use Rattle.line_reader.specs.declared.Line.the-variants as L
 use Rattle.line_reader.specs.Lines.{fieldIn, lineOf}
-use Rattle.tape.specs.declared.Filled.{Filled}
-use Rattle.tape.specs.declared.Filled.the-variants as Filled
+use Rattle.filled_buffer.specs.Filling.{Made, made, refused, ofSheet, withinLimit, inRoom}
 
 -- ---- TAPE 5, the lines of a text
 
@@ -61,18 +59,13 @@ textSays text = sayLines 1 start (first 10 text) (rest 10 text)
 
 -- ---- the bytes that are made
 
--- bytes; or no, with a number of the table and a place
-pub data Made : Type 0 where
-  made : List ℕ → Made
-  refused : ℕ → ℕ → Made
-
 -- TAPE 5: the bytes of the fields, and a right end behind them
 abbrev pub sheetOf : List Field → List ℕ
 sheetOf fs = encode (fs ++ F.End (length fs) ∷ [])
 
 -- behind all lines 1 at place 0, for a sheet over the limit
 unfoldable pub sheetMade : LinesSay → Made
-sheetMade (tells fs) = cond (leb (length (sheetOf fs)) 1048576) (made (sheetOf fs)) (refused 1 0)
+sheetMade (tells fs) = withinLimit (sheetOf fs)
 sheetMade (bad number line) = refused number line
 
 -- TAPE 6: a line for each field, with its line feed; an end has none
@@ -88,31 +81,12 @@ textOf [] = []
 textOf (f ∷ fs) = lineText f ++ textOf fs
 
 -- the sheet's own refusal at its byte, else the text of its fields
-unfoldable pub textMade : List Field → Verdict → Made
-textMade fs (accepts day) = made (textOf fs)
-textMade fs (refuses-at number byte) = refused number byte
+abbrev pub textMade : List Field → Verdict → Made
+textMade fs v = ofSheet v (λ day. made (textOf fs))
 
--- ---- TAPE 5 and 6, the lent buffer
-
--- behind all else 16 at place 0, where there is no room
-unfoldable pub inRoom : ℕ → Made → Made
-inRoom room (made s) = cond (leb (length s) room) (made s) (refused 16 0)
-inRoom room (refused number place) = refused number place
-
--- both directions, into a buffer of so many bytes
+-- both directions, into a buffer of so many bytes; behind all else 16 at place 0, where there is no room
 abbrev pub tapeToSheet : ℕ → List ℕ → Made
 tapeToSheet room text = inRoom room (sheetMade (textSays text))
 
 abbrev pub sheetToTape : ℕ → List ℕ → Made
 sheetToTape room sheet = inRoom room (textMade (fieldsOf sheet) (judgeSheet sheet))
-
--- the bytes at the start of the buffer, all else as it was; a refusal changes nothing
-abbrev pub bufferWith : List ℕ → Made → List ℕ
-bufferWith b (made s) = over b 0 s
-bufferWith b (refused number place) = b
-
--- ---- what each answer of the code says
-
-abbrev pub filled : Made → Filled
-filled (made s) = Filled.Whole (length s)
-filled (refused number place) = Filled.Refused number place

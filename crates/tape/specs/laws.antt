@@ -1,4 +1,3 @@
 pub mod Measuring
 pub mod Track
 pub mod Taken
-pub mod Filling

@@ -21,12 +21,6 @@ pub enum Measured {
     Refused(u8, usize),
 }
 
-// What was put at the start of a lent buffer, by its length; or the number of a refusal and its place: a line, a byte, or 0.
-pub enum Filled {
-    Whole(usize),
-    Refused(u8, usize),
-}
-
 // No text is too long before its lines were judged: the count stops below the limit.
 fn capped_at(p: Progress) -> Progress
     ensures { λ r. ⌜ r ≡ capped p ⌝ }

@@ -5,16 +5,17 @@ ghost use lib.Dec.{leb};
 ghost use lib.ListN.{length};
 ghost use Rattle.text.specs.Over.{over};
 ghost use Rattle.sheet.specs.Fields.{fieldsOf};
-ghost use Rattle.tape.specs.Tape.{lineText, textOf, made, inRoom, sheetToTape, bufferWith, filled};
+ghost use Rattle.filled_buffer.specs.Filling.{made, inRoom, bufferWith, filled};
+ghost use Rattle.tape.specs.Tape.{lineText, textOf, sheetToTape};
 ghost use Rattle.tape_writer.specs.laws.Lining.{Readable};
 use field::Field;
 use field::Read;
 use field::number;
 use field_reader::shape_at;
+use filled_buffer::Filled;
 use line_writer::put_line;
 use sheet::Judged;
 use sheet::judge_sheet;
-use tape::Filled;
 
 // How many bytes a field's line has: it is written into a scratch of its own.
 fn line_length(field: Field) -> usize

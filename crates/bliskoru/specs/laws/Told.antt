@@ -20,8 +20,8 @@ use Rattle.price_rules.specs.declared.Closed.{Closed}
 use Rattle.price_rules.specs.declared.Closed.the-variants as C
 use Rattle.price_rules.specs.Closing.{Told, Answers}
 use Rattle.price_rules.specs.Says.{closingsSay, closedSays}
-use Rattle.tape.specs.declared.Filled.{Filled}
-use Rattle.tape.specs.declared.Filled.the-variants as Filled
+use Rattle.filled_buffer.specs.declared.Filled.{Filled}
+use Rattle.filled_buffer.specs.declared.Filled.the-variants as Filled
 use Rattle.text.specs.declared.Put.{Put}
 use Rattle.text.specs.declared.Put.the-variants.{Next, Full}
 use Rattle.bliskoru.specs.declared.Row.{Row}

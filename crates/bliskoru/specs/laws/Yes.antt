@@ -1,5 +1,5 @@
 -- 0 says yes and nothing else does: no refusal has the number 0, and no list the length 0.
---     read-some, write-some, sheet-some, tape-some, untape-some     the number of a refusal is 1 or more
+--     read-some, write-some, sheet-some, tape-some, untape-some, move-some     the number of a refusal is 1 or more
 --     list-some                             a list has a byte or more
 -- Assumes nothing.
 use Prim.Native.Nat.{ℕ, _+_, _<_}
@@ -10,6 +10,7 @@ use native.Mathlib.Omega.{arith}
 use borrow.Author.Tests.{eqb-false}
 use lib.Dec.{leb, eqb}
 use lib.ListN.{length, length-append}
+use Rattle.field.specs.declared.Form.{Form}
 use Rattle.field.specs.declared.Field.{Field}
 use Rattle.field.specs.Judging.{fine, alone, judge}
 use Rattle.field.specs.Said.{Said, gives, refuses, settled}
@@ -22,12 +23,15 @@ use Rattle.admit.specs.Admitting.{start, Step, goes, ends, stops, admit, admitt
 use Rattle.admit.specs.laws.Admitting.{stopped}
 use Rattle.sheet.specs.Fields.{fieldsOf}
 use Rattle.sheet.specs.Judgement.{Verdict, accepts, refuses-at, judgeSheet}
+use Rattle.sheet.specs.declared.Day.{Day}
+use Rattle.header_mover.specs.Moving.{movedBytes, movable, movedOf, moved}
 use Rattle.items.specs.Items.{first, rest}
 use Rattle.line_reader.specs.declared.Line.{Line}
 use Rattle.line_reader.specs.declared.Line.the-variants as L
 use Rattle.line_reader.specs.Lines.{fieldIn}
-use Rattle.tape.specs.Tape.{LinesSay, tells, bad, with, capped, onward, sayLine, atLast, sayLines, textSays, Made, made, sheetOf, sheetMade, textMade, inRoom, tapeToSheet, sheetToTape}
-use Rattle.tape.specs.Tape as Tape
+use Rattle.tape.specs.Tape.{LinesSay, tells, bad, with, capped, onward, sayLine, atLast, sayLines, textSays, sheetOf, sheetMade, textOf, textMade, tapeToSheet, sheetToTape}
+use Rattle.filled_buffer.specs.Filling as Filling
+use Rattle.filled_buffer.specs.laws.Filling.{of-sheet-some, limit-some, room-some}
 use Rattle.price_rules.specs.Closing.{Answers, six, none-priced, answersOf}
 use Rattle.names.specs.Names.{metalName, tooLong}
 use Rattle.list_lines.specs.Listing.{space, lineFeed, line, refusal, answerLines, listText, listOf}
@@ -116,34 +120,30 @@ bad-some line p l (m ∷ ls) n at e = by (fieldIn l) e (λ q g. bad-some (line +
     by (L.Field f) g later = step f (admit (capped p) f) refl g later
     by L.Malformed g later = let z : 17 ≡ n = cc in omega arith
 
-room-some : (room : ℕ) (m : Made) (n place : ℕ) → ((k : ℕ) (at : ℕ) → m ≡ Tape.refused k at → 0 < k) → inRoom room m ≡ Tape.refused n place → 0 < n
-unfolding inRoom
-room-some room (made s) n place some e = by (leb (length s) room) e
-  where
-    by : (t : Bool) → cond t (made s) (Tape.refused 16 0) ≡ Tape.refused n place → 0 < n
-    by true g = clash cc
-    by false g = let z : 16 ≡ n = cc in omega arith
-room-some room (Tape.refused k at) n place some e = let z : k ≡ n = cc in omega (arith, some k at refl)
-
-made-some : (t : LinesSay) → ((k at : ℕ) → t ≡ bad k at → 0 < k) → (n place : ℕ) → sheetMade t ≡ Tape.refused n place → 0 < n
+made-some : (t : LinesSay) → ((k at : ℕ) → t ≡ bad k at → 0 < k) → (n place : ℕ) → sheetMade t ≡ Filling.refused n place → 0 < n
 unfolding sheetMade
-made-some (tells fs) some n place e = by (leb (length (sheetOf fs)) 1048576) e
-  where
-    by : (t : Bool) → cond t (made (sheetOf fs)) (Tape.refused 1 0) ≡ Tape.refused n place → 0 < n
-    by true g = clash cc
-    by false g = let z : 1 ≡ n = cc in omega arith
+made-some (tells fs) some n place e = limit-some (sheetOf fs) n place e
 made-some (bad k at) some n place e = let z : k ≡ n = cc in omega (arith, some k at refl)
 
-pub tape-some : (room : ℕ) (x : List ℕ) (n place : ℕ) → tapeToSheet room x ≡ Tape.refused n place → 0 < n
+pub tape-some : (room : ℕ) (x : List ℕ) (n place : ℕ) → tapeToSheet room x ≡ Filling.refused n place → 0 < n
 tape-some room x n place e = room-some room (sheetMade (textSays x)) n place (λ k at. made-some (textSays x) (bad-some 1 start (first 10 x) (rest 10 x)) k at) e
 
-turned-some : (fs : List Field) (v : Verdict) → ((k at : ℕ) → v ≡ refuses-at k at → 0 < k) → (n place : ℕ) → textMade fs v ≡ Tape.refused n place → 0 < n
-unfolding textMade
-turned-some fs (accepts day) some n place e = clash cc
-turned-some fs (refuses-at k at) some n place e = let z : k ≡ n = cc in omega (arith, some k at refl)
+pub untape-some : (room : ℕ) (s : List ℕ) (n place : ℕ) → sheetToTape room s ≡ Filling.refused n place → 0 < n
+untape-some room s n place e =
+    room-some room (textMade (fieldsOf s) (judgeSheet s)) n place (λ k at g. of-sheet-some (judgeSheet s) (λ day. Filling.made (textOf (fieldsOf s))) k at (sheet-some s) (λ day m p h. clash cc) g) e
 
-pub untape-some : (room : ℕ) (s : List ℕ) (n place : ℕ) → sheetToTape room s ≡ Tape.refused n place → 0 < n
-untape-some room s n place e = room-some room (textMade (fieldsOf s) (judgeSheet s)) n place (turned-some (fieldsOf s) (judgeSheet s) (sheet-some s)) e
+-- ---- a sheet that is moved to the other header
+
+pub move-some : (wanted : Form) (room : ℕ) (s : List ℕ) (n place : ℕ) → moved wanted room s ≡ Filling.refused n place → 0 < n
+move-some wanted room s n place e =
+    room-some room (Filling.ofSheet (judgeSheet s) (movedOf wanted (fieldsOf s))) n place (λ k at g. of-sheet-some (judgeSheet s) (movedOf wanted (fieldsOf s)) k at (sheet-some s) some g) e
+  where
+    by : (can : Bool) (t : List ℕ) (k at : ℕ) → cond can (Filling.withinLimit t) (Filling.refused 19 0) ≡ Filling.refused k at → 0 < k
+    by true t k at h = limit-some t k at h
+    by false t k at h = let z : 19 ≡ k = cc in omega arith
+
+    some : (day : Day) (k at : ℕ) → movedOf wanted (fieldsOf s) day ≡ Filling.refused k at → 0 < k
+    some day k at h = by (movable wanted (day .form)) (movedBytes wanted (fieldsOf s)) k at h
 
 -- ---- the list: every line has its line feed
 

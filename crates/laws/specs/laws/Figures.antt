@@ -95,9 +95,9 @@ lots-kept r (d ∷ ds) = ap (λ (n : ℕ). d .lots + n) (lots-kept r ds)
 -- ---- indicators
 
 -- the header says nothing of an instrument's trades and prices
-pub trades-header : (metal i m n k : ℕ) (form : Form) (fs : List Field) → tradesIn metal i (Header m n form ∷ fs) ≡ tradesIn metal i (Header m k form ∷ fs)
+pub trades-header : (metal i m n k : ℕ) (form other : Form) (fs : List Field) → tradesIn metal i (Header m n form ∷ fs) ≡ tradesIn metal i (Header m k other ∷ fs)
 unfolding tradesIn tradeIn
-trades-header metal i m n k form fs = refl
+trades-header metal i m n k form other fs = refl
 
 -- indicators whose states agree at every millisecond
 span-by : (i j start : ℕ) (fs gs : List Field) → ((t : ℕ) → after i t fs ≡ after j t gs) → spanOf i start fs ≡ spanOf j start gs
@@ -107,9 +107,9 @@ span-by i j start fs gs e =
     (ap (λ (s : Indicator). present (s .reference)) (e start))
     (sum-cong (centsAt i fs) (centsAt j gs) start windowLength (λ t l h. ap (λ (s : Indicator). centsOf (valueOf s)) (e t)))
 
-pub span-header : (i start m n k : ℕ) (form : Form) (fs : List Field) → spanOf i start (Header m n form ∷ fs) ≡ spanOf i start (Header m k form ∷ fs)
+pub span-header : (i start m n k : ℕ) (form other : Form) (fs : List Field) → spanOf i start (Header m n form ∷ fs) ≡ spanOf i start (Header m k other ∷ fs)
 unfolding afterFrom taken
-span-header i start m n k form fs = span-by i i start (Header m n form ∷ fs) (Header m k form ∷ fs) (λ t. refl)
+span-header i start m n k form other fs = span-by i i start (Header m n form ∷ fs) (Header m k other ∷ fs) (λ t. refl)
 
 pub span-others : (i j start : ℕ) (r : Price → Price) (q : ℕ → Price → Price → Sides) → (j ≡ i → ⊥) → (fs : List Field) → spanOf j start (map (changed i (repriced r q)) fs) ≡ spanOf j start fs
 span-others i j start r q h fs = span-by j j start (map (changed i (repriced r q)) fs) fs (λ t. others-stay i j (repriced r q) (repriced-keeps r q) h t fs)

@@ -1,8 +1,8 @@
--- A sheet stays accepted where the prices of one instrument change and stay right, and the header's marks do.
---     Right            a change of a field's prices that leaves them right
+-- A sheet stays accepted where fields change and stay right in their places, and the header gets other marks or another form with the same third value.
+--     Stays            a change of a field that leaves it in its place;  Right    and one that leaves its values right
 --     chain-changed    such fields lead to the end as before
 --     right-changed    a change that keeps an instrument's prices in their ranges is one
---     changed-accepted the sheet of such fields is accepted, and its fields are those
+--     headed-accepted  the sheet of such fields is accepted, and its fields are those;  changed-accepted    so with other prices of one instrument
 -- Assumes nothing.
 use Prim.Native.Nat.{ℕ, _+_, _≤_}
 use mathlib.Core.Path.{_≡_, refl, sym, ap, ap₂, subst, _∙_}
@@ -40,17 +40,17 @@ changed-all P i g f there here = by-test (concerns i f)
     by-test true = there
     by-test false = here
 
--- other marks in the header: what is kept behind a field, and what is told of the day
-abbrev withMarks : ℕ → Progress → Progress
-withMarks m p = record { stage = p .stage; metal = p .metal; marks = m; form = p .form; instrument = p .instrument; time = p .time; count = p .count }
+-- other marks and another form of the header: what is kept behind a field, and what is told of the day
+abbrev headedBy : ℕ → Form → Progress → Progress
+headedBy m form p = record { stage = p .stage; metal = p .metal; marks = m; form = form; instrument = p .instrument; time = p .time; count = p .count }
 
-abbrev pub dayWith : ℕ → Day → Day
-dayWith m day = record { metal = day .metal; marks = m; form = day .form; fields = day .fields }
+abbrev pub dayWith : ℕ → Form → Day → Day
+dayWith m form day = record { metal = day .metal; marks = m; form = form; fields = day .fields }
 
-abbrev stepWith : ℕ → Step → Step
-stepWith m (goes q) = goes (withMarks m q)
-stepWith m ends = ends
-stepWith m (stops number) = stops number
+abbrev stepWith : ℕ → Form → Step → Step
+stepWith m form (goes q) = goes (headedBy m form q)
+stepWith m form ends = ends
+stepWith m form (stops number) = stops number
 
 -- ---- one field
 
@@ -62,14 +62,14 @@ passed-fine p f h =
     ∙ unless-passed (placed p f) 5 _ (h .place)
     ∙ simp (h .values) (h .counted)
 
--- it stands where another does, and goes on as that does, but for the header's marks
-record AsBefore (m : ℕ) (p : Progress) (f g : Field) : Type 0 where
-  place : placed (withMarks m p) g ≡ placed p f
-  counted : countNumber (withMarks m p) g ≡ countNumber p f
-  goes-on : admitted (withMarks m p) g ≡ stepWith m (admitted p f)
+-- it stands where another does, and goes on as that does, but for what the header said
+pub record AsBefore (m : ℕ) (form : Form) (p : Progress) (f g : Field) : Type 0 where
+  place : placed (headedBy m form p) g ≡ placed p f
+  counted : countNumber (headedBy m form p) g ≡ countNumber p f
+  goes-on : admitted (headedBy m form p) g ≡ stepWith m form (admitted p f)
 
-module _ (m : ℕ) (p : Progress) where
-  before-self : (f : Field) → Later f → AsBefore m p f f
+module _ (m : ℕ) (said : Form) (p : Progress) where
+  before-self : (f : Field) → Later f → AsBefore m said p f f
   unfolding placed previousPlaced countNumber admitted
   before-self (Header metal marks form) h = absurd h
   before-self (PreviousClose instrument price) h = record { place = refl; counted = refl; goes-on = refl }
@@ -77,7 +77,7 @@ module _ (m : ℕ) (p : Progress) where
   before-self (Quote time instrument sides bid offer) h = record { place = refl; counted = refl; goes-on = refl }
   before-self (End count) h = record { place = refl; counted = refl; goes-on = refl }
 
-  before-repriced : (r : Price → Price) (q : ℕ → Price → Price → Sides) (f : Field) → Later f → AsBefore m p f (repriced r q f)
+  before-repriced : (r : Price → Price) (q : ℕ → Price → Price → Sides) (f : Field) → Later f → AsBefore m said p f (repriced r q f)
   unfolding placed previousPlaced countNumber admitted
   before-repriced r q (Header metal marks form) h = absurd h
   before-repriced r q (PreviousClose instrument price) h = record { place = refl; counted = refl; goes-on = refl }
@@ -86,10 +86,11 @@ module _ (m : ℕ) (p : Progress) where
   before-repriced r q (End count) h = record { place = refl; counted = refl; goes-on = refl }
 
 -- what an admission made of a field, it makes of the field changed
-admit-before : (m : ℕ) (p : Progress) (f g : Field) (t : Step) → AsBefore m p f g → Passed p f → admitted p f ≡ t → judge (beforeOf p) g ≡ fine → admit (withMarks m p) g ≡ stepWith m t
-admit-before m p f g t b h e right =
-    let ok : Passed (withMarks m p) g = record { room = h .room; place = b .place ∙ h .place; values = right; counted = b .counted ∙ h .counted } in
-    admit-fine (withMarks m p) g (passed-fine (withMarks m p) g ok) ∙ b .goes-on ∙ ap (stepWith m) e
+admit-before : (m : ℕ) (form : Form) (p : Progress) (f g : Field) (t : Step) → thirdOf form ≡ thirdOf (p .form) → AsBefore m form p f g → Passed p f → admitted p f ≡ t → judge (beforeOf p) g ≡ fine → admit (headedBy m form p) g ≡ stepWith m form t
+admit-before m form p f g t same b h e right =
+    let values : judge (beforeOf (headedBy m form p)) g ≡ fine = ap (λ (third : ℕ). judge (record { third = third; time = p .time }) g) same ∙ right in
+    let ok : Passed (headedBy m form p) g = record { room = h .room; place = b .place ∙ h .place; values = values; counted = b .counted ∙ h .counted } in
+    admit-fine (headedBy m form p) g (passed-fine (headedBy m form p) g ok) ∙ b .goes-on ∙ ap (stepWith m form) e
 
 -- a right header comes first
 admit-header : (metal m : ℕ) (form : Form) → headerRight metal m (thirdOf form) ≡ true → admit start (Header metal m form) ≡ goes (afterHeader start metal m form)
@@ -103,36 +104,47 @@ field-more : (f : Field) (fs : List Field) → length (encode (f ∷ fs)) ≡ si
 unfolding encode
 field-more f fs = simp (length-append, body-length f) (omega arith)
 
+-- a change leaves a field behind the header in its place
+abbrev pub Stays : (Field → Field) → Type 0
+Stays g = (m : ℕ) (form : Form) (p : Progress) (f : Field) → Later f → AsBefore m form p f (g f)
+
+-- it leaves a field's values right
+abbrev pub Right : (Field → Field) → Field → Type 0
+Right g f = (before : Before) → judge before f ≡ fine → judge before (g f) ≡ fine
+
+-- no change is one
+pub same-stays : Stays (λ f. f)
+same-stays m form p f h = before-self m form p f h
+
+module _ (g : Field → Field) (stays : Stays g) (m : ℕ) (new : Form) where
+  -- one field behind the header
+  admit-changed : {p : Progress} {f : Field} {t : Step} → 1 ≤ p .stage → thirdOf new ≡ thirdOf (p .form) → Passed p f → admitted p f ≡ t → Right g f → admit (headedBy m new p) (g f) ≡ stepWith m new t
+  admit-changed {p} {f} {t} l same u e h = admit-before m new p f (g f) t same (stays m new p f (later-not-header p f u l)) u e (h (beforeOf p) (u .values))
+
+  chain-changed : {p : Progress} {fs : List Field} {day : Day} → Chain p fs day → 1 ≤ p .stage → thirdOf new ≡ thirdOf (p .form) → Each (Right g) fs → Chain (headedBy m new p) (map g fs) (dayWith m new day)
+  chain-changed (last {p = p} {f = f} e) l same h = let u = ended p f e in last (admit-changed l same (u .0) (u .1) (h .0))
+  chain-changed (more {p = p} {q = to} {f = f} e c) l same h =
+      let u = went p f to e in
+      let k = kept p f to e in
+      more (admit-changed l same (u .0) (u .1) (h .0)) (chain-changed c (k .later) (same ∙ ap thirdOf (sym (k .form-stays l))) (h .1))
+
+  -- behind a right header with these marks, in this form
+  chain-headed : (metal marks : ℕ) (form : Form) (rest : List Field) (day : Day) → thirdOf new ≡ thirdOf form → headerRight metal m (thirdOf new) ≡ true → Chain start (Header metal marks form ∷ rest) day → Each (Right g) rest
+      → Chain start (Header metal m new ∷ map g rest) (dayWith m new day)
+  chain-headed metal marks form rest day same right (last e) h = let z : Header metal marks form ≡ End (start .count) = end-is start (Header metal marks form) e in clash cc
+  chain-headed metal marks form rest day same right (more {q = to} {fs = fs} e c) h =
+      let behind = header-kept start metal marks form to e in
+      more
+      (admit-header metal m new right)
+      (subst (λ (p : Progress). Chain (headedBy m new p) (map g fs) (dayWith m new day)) behind (chain-changed c (kept start (Header metal marks form) to e .later) (same ∙ ap (λ (p : Progress). thirdOf (p .form)) (sym behind)) h))
+
 module _ (i : ℕ) (r : Price → Price) (q : ℕ → Price → Price → Sides) where
   -- the change of the fields of instrument i
   abbrev change : Field → Field
   change f = changed i (repriced r q) f
 
-  -- it leaves a field's values right
-  abbrev pub Right : Field → Type 0
-  Right f = (before : Before) → judge before f ≡ fine → judge before (changed i (repriced r q) f) ≡ fine
-
-  before-changed : (m : ℕ) (p : Progress) (f : Field) → Later f → AsBefore m p f (change f)
-  before-changed m p f h = changed-all (AsBefore m p f) i (repriced r q) f (before-repriced m p r q f h) (before-self m p f h)
-
-  chain-changed : (m : ℕ) {p : Progress} {fs : List Field} {day : Day} → Chain p fs day → 1 ≤ p .stage → Each Right fs → Chain (withMarks m p) (map change fs) (dayWith m day)
-  chain-changed m (last {p = p} {f = f} e) l h =
-      let u = ended p f e in
-      last (admit-before m p f (change f) ends (before-changed m p f (later-not-header p f (u .0) l)) (u .0) (u .1) (h .0 (beforeOf p) (u .0 .values)))
-  chain-changed m (more {p = p} {q = to} {f = f} e c) l h =
-      let u = went p f to e in
-      more
-      (admit-before m p f (change f) (goes to) (before-changed m p f (later-not-header p f (u .0) l)) (u .0) (u .1) (h .0 (beforeOf p) (u .0 .values)))
-      (chain-changed m c (kept p f to e .later) (h .1))
-
-  -- behind a header with other marks, which are right
-  chain-remarked : (metal marks m : ℕ) (form : Form) (rest : List Field) (day : Day) → headerRight metal m (thirdOf form) ≡ true → Chain start (Header metal marks form ∷ rest) day → Each Right rest
-      → Chain start (Header metal m form ∷ map change rest) (dayWith m day)
-  chain-remarked metal marks m form rest day right (last e) h = let z : Header metal marks form ≡ End (start .count) = end-is start (Header metal marks form) e in clash cc
-  chain-remarked metal marks m form rest day right (more {q = to} {fs = fs} e c) h =
-      more
-      (admit-header metal m form right)
-      (subst (λ (p : Progress). Chain (withMarks m p) (map change fs) (dayWith m day)) (header-kept start metal marks form to e) (chain-changed m c (kept start (Header metal marks form) to e .later) h))
+  change-stays : Stays change
+  change-stays m form p f h = changed-all (AsBefore m form p f) i (repriced r q) f (before-repriced m form p r q f h) (before-self m form p f h)
 
   -- such fields have the same tags, and as many bytes
   pub tag-same : (f : Field) → tagOf (change f) ≡ tagOf f
@@ -182,26 +194,36 @@ module _ (i : ℕ) (r : Price → Price) (q : ℕ → Price → Price → Sides)
       by-test false e = h
   sound-changed before (End count) ok h = tt
 
-  pub right-changed : (fs : List Field) → Each Ok fs → Each (Right i r q) fs
+  pub right-changed : (fs : List Field) → Each Ok fs → Each (Right (changed i (repriced r q))) fs
   right-changed [] h = tt
   right-changed (f ∷ fs) h = ((λ before e. judge-sound before (changed i (repriced r q) f) (sound-changed before f (h .0) (sound before f e))), right-changed fs (h .1))
 
 -- ---- a sheet
 
--- an accepted sheet with other marks in its header, and with other prices of one instrument
-module _ (s : List ℕ) (day : Day) (b : Bytes s) (a : judgeSheet s ≡ accepts day) where
+-- an accepted sheet with another header, and with other fields behind it
+module _ (s : List ℕ) (day : Day) (a : judgeSheet s ≡ accepts day) where
   -- its fields behind the header
   abbrev pub restOf : List Field
   restOf = accepted-header s day a .rest
 
-  module _ (i : ℕ) (r : Price → Price) (q : ℕ → Price → Price → Sides) (m : ℕ) where
-    abbrev pub changedFields : List Field
-    changedFields = Header (day .metal) m (day .form) ∷ map (changed i (repriced r q)) restOf
+  module _ (g : Field → Field) (m : ℕ) (new : Form) where
+    abbrev headedFields : List Field
+    headedFields = Header (day .metal) m new ∷ map g restOf
 
-    pub changed-accepted : headerRight (day .metal) m (thirdOf (day .form)) ≡ true → Each (Right i r q) restOf → (judgeSheet (encode changedFields) ≡ accepts (dayWith m day)) × (fieldsOf (encode changedFields) ≡ changedFields)
-    changed-accepted right h =
-        let first = accepted-header s day a in
-        let chain : Chain start (Header (day .metal) (day .marks) (day .form) ∷ restOf) day = subst (λ (fs : List Field). Chain start fs day) (first .is) (accepted-chain s day a) in
-        let same : s ≡ encode (Header (day .metal) (day .marks) (day .form) ∷ restOf) = accepted-encodes s day b a ∙ ap encode (first .is) in
-        let long : length (encode changedFields) ≡ length (encode (Header (day .metal) (day .marks) (day .form) ∷ restOf)) = header-same i r q (day .metal) (day .marks) m (day .form) restOf in
-        encoded-accepted changedFields (dayWith m day) (chain-remarked i r q (day .metal) (day .marks) m (day .form) restOf day right chain h) (omega (arith, accepted-small s day a, long, ap length same))
+    pub headed-accepted : Stays g → thirdOf new ≡ thirdOf (day .form) → headerRight (day .metal) m (thirdOf new) ≡ true → Each (Right g) restOf → length (encode headedFields) ≤ 1048576
+        → (judgeSheet (encode headedFields) ≡ accepts (dayWith m new day)) × (fieldsOf (encode headedFields) ≡ headedFields)
+    headed-accepted stays same right h small =
+        let chain : Chain start (Header (day .metal) (day .marks) (day .form) ∷ restOf) day = subst (λ (fs : List Field). Chain start fs day) (accepted-header s day a .is) (accepted-chain s day a) in
+        encoded-accepted headedFields (dayWith m new day) (chain-headed g stays m new (day .metal) (day .marks) (day .form) restOf day same right chain h) small
+
+-- with other marks, and with other prices of one instrument
+module _ (s : List ℕ) (day : Day) (b : Bytes s) (a : judgeSheet s ≡ accepts day) (i : ℕ) (r : Price → Price) (q : ℕ → Price → Price → Sides) (m : ℕ) where
+  abbrev pub changedFields : List Field
+  changedFields = Header (day .metal) m (day .form) ∷ map (changed i (repriced r q)) (restOf s day a)
+
+  pub changed-accepted : headerRight (day .metal) m (thirdOf (day .form)) ≡ true → Each (Right (changed i (repriced r q))) (restOf s day a) → (judgeSheet (encode changedFields) ≡ accepts (dayWith m (day .form) day)) × (fieldsOf (encode changedFields) ≡ changedFields)
+  changed-accepted right h =
+      let rest = restOf s day a in
+      let same : s ≡ encode (Header (day .metal) (day .marks) (day .form) ∷ rest) = accepted-encodes s day b a ∙ ap encode (accepted-header s day a .is) in
+      let long : length (encode changedFields) ≡ length (encode (Header (day .metal) (day .marks) (day .form) ∷ rest)) = header-same i r q (day .metal) (day .marks) m (day .form) rest in
+      headed-accepted s day a (changed i (repriced r q)) m (day .form) (change-stays i r q) refl right h (omega (arith, accepted-small s day a, long, ap length same))

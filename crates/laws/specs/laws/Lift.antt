@@ -71,7 +71,7 @@ module _ (δ : ℤ) where
         in-order = order-kept (hasBid sides) (hasOffer sides) bid offer (h .in-order);
       }
 
-  lift-right : (fs : List Field) → Each (Liftable δ) fs → Each (Right 0 (shiftPrice δ) (shiftSides δ)) fs
+  lift-right : (fs : List Field) → Each (Liftable δ) fs → Each (Right (liftedField δ)) fs
   lift-right = right-changed 0 (shiftPrice δ) (shiftSides δ) (Liftable δ)
       (λ price l h. l refl)
       (λ time price lots l h. l refl)

@@ -113,7 +113,7 @@ each-unit : (fs : List Field) → Each (λ f. Unit {0}) fs
 each-unit [] = tt
 each-unit (f ∷ fs) = (tt, each-unit fs)
 
-turn-right : (k : ℕ) (fs : List Field) → Each (Right (suc k) turnPrice turnSides) fs
+turn-right : (k : ℕ) (fs : List Field) → Each (Right (changed (suc k) turnField)) fs
 turn-right k fs =
     right-changed (suc k) turnPrice turnSides (λ f. Unit {0})
     (λ price ok h. price-turned k price h)
@@ -154,17 +154,17 @@ figures-turned : (i metal marks third : ℕ) (form : Form) (rest : List Field) �
 unfolding figuresOf
 figures-turned i metal marks third form rest low fair =
     let fs = Header metal marks form ∷ rest in
-    let own = trades-header metal i metal (turnedMarks i marks) marks form (map (changed i turnField) rest) ∙ trades-changed metal i turnPrice turnSides fs in
+    let own = trades-header metal i metal (turnedMarks i marks) marks form form (map (changed i turnField) rest) ∙ trades-changed metal i turnPrice turnSides fs in
     record {
       metal = refl;
       third = refl;
       mark = mark-turned marks i low;
       lots = ap lotsIn own ∙ lots-kept turnPrice (tradesIn metal i fs);
       value = ap valueIn own ∙ value-turned (tradesIn metal i fs);
-      span = span-header i (startOf metal i) metal (turnedMarks i marks) marks form (map (changed i turnField) rest) ∙ span-turned i (startOf metal i) fs fair;
+      span = span-header i (startOf metal i) metal (turnedMarks i marks) marks form form (map (changed i turnField) rest) ∙ span-turned i (startOf metal i) fs fair;
       marks-stay = λ j h. mark-kept marks i j low h;
-      trades-stay = λ j h. trades-header metal j metal (turnedMarks i marks) marks form (map (changed i turnField) rest) ∙ trades-others metal i turnPrice turnSides j h fs;
-      spans-stay = λ j h. span-header j (startOf metal j) metal (turnedMarks i marks) marks form (map (changed i turnField) rest) ∙ span-others i j (startOf metal j) turnPrice turnSides h fs;
+      trades-stay = λ j h. trades-header metal j metal (turnedMarks i marks) marks form form (map (changed i turnField) rest) ∙ trades-others metal i turnPrice turnSides j h fs;
+      spans-stay = λ j h. span-header j (startOf metal j) metal (turnedMarks i marks) marks form form (map (changed i turnField) rest) ∙ span-others i j (startOf metal j) turnPrice turnSides h fs;
     }
 
 -- ---- the law

@@ -164,10 +164,11 @@ module _ (s : List ℕ) (at : ℕ) (p : Progress) (o : Opened s at p) {t : Bool}
 
 -- ---- records
 
--- a trade or a quote, where its instrument is let be
+-- the bytes of a right trade or quote at the place
 abbrev pub rightSize : List ℕ → ℕ → ℕ
 rightSize s at = sizeBy 3 4 s at
 
+-- the same, and 0 where its instrument is barred
 unfoldable pub recordSize : List ℕ → ℕ → ℕ → ℕ
 recordSize s at third = cond (allowed third (getD s (at + 7) 0)) (rightSize s at) 0
 

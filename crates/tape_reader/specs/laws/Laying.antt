@@ -24,12 +24,13 @@ use Rattle.next_line.specs.declared.NextLine.the-variants as N
 use Rattle.next_line.specs.laws.Next.{nextLine, Goes, was-last, was-field, was-bad}
 use Rattle.tape.specs.declared.Measured.{Measured}
 use Rattle.tape.specs.declared.Measured.the-variants.{Bytes, Refused}
-use Rattle.tape.specs.declared.Filled.{Filled}
-use Rattle.tape.specs.declared.Filled.the-variants as Filled
-use Rattle.tape.specs.Tape.{LinesSay, tells, bad, sayLine, sayLines, textSays, made, refused, sheetOf, sheetMade, inRoom, tapeToSheet}
+use Rattle.filled_buffer.specs.declared.Filled.{Filled}
+use Rattle.filled_buffer.specs.declared.Filled.the-variants as Filled
+use Rattle.filled_buffer.specs.Filling.{made, refused, inRoom}
+use Rattle.filled_buffer.specs.laws.Filling.{Answers, answers}
+use Rattle.tape.specs.Tape.{LinesSay, tells, bad, sayLine, sayLines, textSays, sheetOf, sheetMade, tapeToSheet}
 use Rattle.tape.specs.laws.Measuring.{measured, measured-low, measured-high, encode-long, encode-join, encode-one, end-long, sheet-long}
 use Rattle.tape.specs.laws.Taken.{closed, Took, took}
-use Rattle.tape.specs.laws.Filling.{Answers, answers}
 use Rattle.tape_reader.specs.declared.Laid.{Laid}
 
 -- the text is accepted, and the buffer has room for its sheet, which is within the limit

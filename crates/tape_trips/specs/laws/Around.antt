@@ -33,7 +33,9 @@ use Rattle.items.specs.laws.Items.{cut-at, join-items}
 use Rattle.line_reader.specs.declared.Line.the-variants as L
 use Rattle.line_reader.specs.Lines.{fieldIn, lineOf}
 use Rattle.line_reader.specs.laws.Trips.{line-read, read-line, line-lacks}
-use Rattle.tape.specs.Tape.{LinesSay, tells, bad, with, capped, atLast, onward, sayLine, sayLines, textSays, Made, made, refused, sheetOf, sheetMade, lineText, textOf, textMade, inRoom, tapeToSheet, sheetToTape}
+use Rattle.filled_buffer.specs.Filling.{made, ofSheet}
+use Rattle.filled_buffer.specs.laws.Filling.{sheet-made, limit-made, room-made, made-room}
+use Rattle.tape.specs.Tape.{LinesSay, tells, bad, with, capped, atLast, onward, sayLine, sayLines, textSays, sheetOf, sheetMade, lineText, textOf, textMade, tapeToSheet, sheetToTape}
 use Rattle.tape.specs.laws.Measuring.{encode-long}
 use Rattle.tape.specs.laws.Track.{capped-same}
 use Rattle.tape.specs.laws.Taken.{closed, took, lined, text-more}
@@ -94,15 +96,11 @@ pub record Back (x s : List ℕ) : Type 0 where
   pub has : fieldsOf s ≡ fields ++ F.End (length fields) ∷ []
   pub again : textMade (fieldsOf s) (judgeSheet s) ≡ made x
 
-made-is : (b : Bool) (t s : List ℕ) → cond b (made t) (refused 1 0) ≡ made s → (b ≡ true) × (t ≡ s)
-made-is true t s e = (refl, cc)
-made-is false t s e = clash cc
-
 told-back : (x s : List ℕ) (fs : List Field) → textSays x ≡ tells fs → sheetMade (tells fs) ≡ made s → Back x s
-unfolding sheetMade textMade
+unfolding sheetMade ofSheet
 told-back x s fs t e =
-    let m = made-is (leb (length (sheetOf fs)) 1048576) (sheetOf fs) s e in
-    let small = leb-true (length (sheetOf fs)) 1048576 (m .0) in
+    let m = limit-made (sheetOf fs) s e in
+    let small = m .0 in
     let few = encode-long (fs ++ F.End (length fs) ∷ []) in
     let one = length-append fs (F.End (length fs) ∷ []) in
     let c = chain-back 1 start (first 10 x) (rest 10 x) fs t (omega arith) (length fs) (omega arith) in
@@ -193,24 +191,8 @@ text-read s day bytes e =
 
 -- ---- what both directions put into lent buffers
 
--- what is put was made, and what was made is put where there is room
-pub room-made : (room : ℕ) (m : Made) (s : List ℕ) → inRoom room m ≡ made s → m ≡ made s
-unfolding inRoom
-room-made room (made t) s e = by-test (leb (length t) room) e
-  where
-    by-test : (b : Bool) → cond b (made t) (refused 16 0) ≡ made s → made t ≡ made s
-    by-test true g = g
-    by-test false g = clash cc
-room-made room (refused number place) s e = clash cc
-
-pub made-room : (room : ℕ) (m : Made) (s : List ℕ) → m ≡ made s → length s ≤ room → inRoom room m ≡ made s
-unfolding inRoom
-made-room room m s e h = ap (inRoom room) e ∙ simp (le-leb (length s) room h)
-
 text-made : (s x : List ℕ) (v : Verdict) → textMade (fieldsOf s) v ≡ made x → (day : Day) × (v ≡ accepts day) × (textOf (fieldsOf s) ≡ x)
-unfolding textMade
-text-made s x (accepts day) e = (day, refl, cc)
-text-made s x (refuses-at number byte) e = clash cc
+text-made s x v e = let m = sheet-made v (λ day. made (textOf (fieldsOf s))) x e in let is : made (textOf (fieldsOf s)) ≡ made x = m .2 in (m .0, m .1, cc)
 
 pub there-and-back : (s x : List ℕ) (room other : ℕ) → Bytes s → sheetToTape room s ≡ made x → length s ≤ other → tapeToSheet other x ≡ made s
 there-and-back s x room other bytes e h =

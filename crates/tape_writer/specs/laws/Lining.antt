@@ -27,10 +27,11 @@ use Rattle.sheet.specs.Fields.{fieldsAt, fieldsOf, Each}
 use Rattle.sheet.specs.Judgement.{Verdict, accepts, judgeSheet, judgedSays}
 use Rattle.sheet.specs.laws.Accepted.{accepted-sound, accepted-small}
 use Rattle.sheet.specs.laws.Passes.{Sofar, sofar-start, sofar-stop, sofar-next, sofar-here}
-use Rattle.tape.specs.declared.Filled.{Filled}
-use Rattle.tape.specs.declared.Filled.the-variants as Filled
-use Rattle.tape.specs.Tape.{lineText, textOf, textMade, Made, made, refused, inRoom, sheetToTape}
-use Rattle.tape.specs.laws.Filling.{Answers, answers}
+use Rattle.filled_buffer.specs.declared.Filled.{Filled}
+use Rattle.filled_buffer.specs.declared.Filled.the-variants as Filled
+use Rattle.filled_buffer.specs.Filling.{Made, made, refused, inRoom}
+use Rattle.filled_buffer.specs.laws.Filling.{Answers, answers}
+use Rattle.tape.specs.Tape.{lineText, textOf, textMade, sheetToTape}
 use Rattle.tape_trips.specs.laws.Short.{line-most, text-short}
 
 -- how long the text of fields is
@@ -160,14 +161,5 @@ module _ (s b : List ℕ) {t : Bool} (q : t ≡ leb (textLong (fieldsOf s)) (len
   unfolding inRoom
   text-not h = answers b b _ (inRoom (length b) (made (textOf (fieldsOf s)))) (refused 16 0) (simp (sym q, h)) refl refl
 
-module _ (s b : List ℕ) {j : Judged} (q : judgedSays j ≡ judgeSheet s) where
-  pub sheet-readable : Bytes s → {day : Day} → j ≡ J.Accepted day → Readable s
-  sheet-readable bytes {day} d = readable s day bytes (sym q ∙ ap judgedSays d)
-
-  pub sheet-text : {day : Day} → j ≡ J.Accepted day → {r : Filled} {b′ : List ℕ} → Answers (inRoom (length b) (made (textOf (fieldsOf s)))) b r b′ → Answers (sheetToTape (length b) s) b r b′
-  unfolding textMade
-  sheet-text {day} d {r} {b′} u = subst (λ (m : Made). Answers (inRoom (length b) m) b r b′) (ap (textMade (fieldsOf s)) (sym (ap judgedSays d) ∙ q)) u
-
-  pub sheet-refused : {number byte : ℕ} → j ≡ J.Refused number byte → Answers (sheetToTape (length b) s) b (Filled.Refused number byte) b
-  unfolding textMade inRoom
-  sheet-refused {number} {byte} d = answers b b _ _ (refused number byte) (ap (λ (v : Verdict). inRoom (length b) (textMade (fieldsOf s) v)) (sym q ∙ ap judgedSays d)) refl refl
+pub sheet-readable : (s : List ℕ) {j : Judged} → judgedSays j ≡ judgeSheet s → Bytes s → {day : Day} → j ≡ J.Accepted day → Readable s
+sheet-readable s q bytes {day} d = readable s day bytes (sym q ∙ ap judgedSays d)

@@ -1,8 +1,8 @@
--- `tape_to_sheet::text_room` meets its contract. Assumes nothing.
+-- `program_output::text_room` meets its contract. Assumes nothing.
 use Prim.Native.Nat.{ℕ}
 use lib.ListN.{length-replicate}
-use Rattle.tape_to_sheet.proofs.text_room.Statement.{statement}
-use Rattle.tape_to_sheet.proofs.text_room.Tie as tie
+use Rattle.program_output.proofs.text_room.Statement.{statement}
+use Rattle.program_output.proofs.text_room.Tie as tie
 
 returns : tie.Need-returns
 returns c = length-replicate {A = ℕ} 3145729 0

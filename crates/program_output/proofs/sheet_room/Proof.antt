@@ -1,8 +1,8 @@
--- `sheet_to_tape::sheet_room` meets its contract. Assumes nothing.
+-- `program_output::sheet_room` meets its contract. Assumes nothing.
 use Prim.Native.Nat.{ℕ}
 use lib.ListN.{length-replicate}
-use Rattle.sheet_to_tape.proofs.sheet_room.Statement.{statement}
-use Rattle.sheet_to_tape.proofs.sheet_room.Tie as tie
+use Rattle.program_output.proofs.sheet_room.Statement.{statement}
+use Rattle.program_output.proofs.sheet_room.Tie as tie
 
 returns : tie.Need-returns
 returns c = length-replicate {A = ℕ} 1048577 0
