@@ -301,3 +301,11 @@ pub fn write_field(field: &Field, buffer: &mut [u8], at: usize) -> Result<usize,
     part.copy_from_slice(&bytes);
     Ok(at + bytes.len())
 }
+
+/// What a lent buffer gets where it has so much room; else 16 at 0.
+pub(crate) fn fitting(bytes: Vec<u8>, room: usize) -> Result<Vec<u8>, Refusal> {
+    if bytes.len() > room {
+        return Err((16, 0));
+    }
+    Ok(bytes)
+}

@@ -10,6 +10,7 @@
 //! * [`pricing`]   the six contracts
 //! * [`list`]      the closing list as text
 //! * [`tape`]      a sheet as lines of text, and back
+//! * [`moves`]     a sheet moved to the other header
 //! * [`draft`]     sheets put together by hand, without any test of values
 //! * [`random`]    the random numbers of the generator
 //! * [`generator`] random sheets, accepted and damaged
@@ -28,6 +29,7 @@ pub mod holds;
 pub mod indicator;
 pub mod laws;
 pub mod list;
+pub mod moves;
 pub mod named;
 pub mod pricing;
 pub mod random;
@@ -39,6 +41,7 @@ pub mod tape;
 
 pub use field::{read_field, write_field, Field, Refusal, Walker};
 pub use list::closing_list;
+pub use moves::{to_new_header, to_old_header};
 pub use pricing::{price_day, Answer, Method};
-pub use sheet::{judge_sheet, Day};
+pub use sheet::{judge_by_01_alone, judge_sheet, Day};
 pub use tape::{sheet_to_tape, tape_to_sheet, TAPE_LIMIT};

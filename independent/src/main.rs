@@ -11,7 +11,7 @@ use independent::random::Random;
 use independent::sheet_cases::sheet_cases;
 use independent::stream;
 use independent::tables::{LIST_LIMIT, SHEET_LIMIT};
-use independent::{sheet_to_tape, tape_to_sheet, Refusal, TAPE_LIMIT};
+use independent::{sheet_to_tape, tape_to_sheet, to_new_header, to_old_header, Refusal, TAPE_LIMIT};
 use std::io::{self, Read, Write};
 use std::process::ExitCode;
 use std::str::FromStr;
@@ -38,6 +38,8 @@ const USAGE: &str = "usage:
   independent tape-to-sheet < TEXT      the sheet of a text tape; what is refused
                                         is told on standard error alone
   independent sheet-to-tape < SHEET     the text tape of a sheet, likewise
+  independent to-new-header < SHEET     the sheet moved to the new header, likewise
+  independent to-old-header < SHEET     the sheet moved to the old header, likewise
   independent tapes SEED COUNT KIND     a stream of texts, canonical or damaged
   independent sized-tape SEED BYTES     one accepted text of about so many bytes
 ";
@@ -66,6 +68,8 @@ fn run(words: &[&str]) -> Result<Vec<u8>, String> {
         ["field-cases"] => Ok(field_cases(&read_up_to(LIST_LIMIT)?).into_bytes()),
         ["tape-to-sheet"] => rewritten(TAPE_LIMIT, |text| tape_to_sheet(text, SHEET_LIMIT)),
         ["sheet-to-tape"] => rewritten(SHEET_LIMIT, |sheet| sheet_to_tape(sheet, TAPE_LIMIT)),
+        ["to-new-header"] => rewritten(SHEET_LIMIT, |sheet| to_new_header(sheet, SHEET_LIMIT)),
+        ["to-old-header"] => rewritten(SHEET_LIMIT, |sheet| to_old_header(sheet, SHEET_LIMIT)),
         ["tapes", seed, count, "canonical"] => tapes(number(seed)?, number(count)?, TapeKind::Canonical),
         ["tapes", seed, count, "damaged"] => tapes(number(seed)?, number(count)?, TapeKind::Damaged),
         [command, seed, count] => make(command, number(seed)?, number(count)?),
@@ -103,8 +107,8 @@ fn tapes(seed: u64, count: u64, kind: TapeKind) -> Result<Vec<u8>, String> {
     Ok(stream::stream_of_cases(&texts))
 }
 
-/// Standard input as a sheet or as a text; nothing where it is too
-/// long or refused, which standard error tells.
+/// Standard input as a sheet, as a text or with its other header; nothing where it
+/// is too long or refused, which standard error tells.
 fn rewritten(limit: usize, turn: fn(&[u8]) -> Result<Vec<u8>, Refusal>) -> Result<Vec<u8>, String> {
     let input = read_up_to(limit)?;
     let told = if input.len() > limit {

@@ -14,7 +14,7 @@
 //! The end field has no line. Every accepted sheet has one text, and every
 //! accepted text is that of one sheet.
 
-use crate::field::{append, End, Field, Header, PreviousClose, Quote, Refusal, Trade, BID, OFFER};
+use crate::field::{append, fitting, End, Field, Header, PreviousClose, Quote, Refusal, Trade, BID, OFFER};
 use crate::sheet::{judge_sheet, Day, Met, Record};
 use crate::tables::{metal_row, INSTRUMENT_NAMES, METALS, SHEET_LIMIT};
 
@@ -47,14 +47,6 @@ pub fn tape_to_sheet(text: &[u8], room: usize) -> Result<Vec<u8>, Refusal> {
 pub fn sheet_to_tape(sheet: &[u8], room: usize) -> Result<Vec<u8>, Refusal> {
     let day = judge_sheet(sheet)?;
     fitting(text_of(&day), room)
-}
-
-/// The bytes, where they fit into the room; else 16.
-fn fitting(bytes: Vec<u8>, room: usize) -> Result<Vec<u8>, Refusal> {
-    if bytes.len() > room {
-        return Err((16, 0));
-    }
-    Ok(bytes)
 }
 
 /// The values of a line with its line feed; none where it is malformed or has

@@ -1,8 +1,9 @@
 //! The commands as a user runs them.
 
 use independent::generator::tapes::{sized_tape, tape, TapeKind};
+use independent::named::moves::named_moves;
 use independent::named::tapes::NICKEL_TAPE;
-use independent::named::{nickel_sheet, NICKEL_LIST};
+use independent::named::{nickel_sheet, third_wednesday_sheet, NICKEL_LIST};
 use independent::stream::{cases, shifted, stream_of_cases, stream_of_pairs, turned};
 use std::io::Write;
 use std::process::{Command, Output, Stdio};
@@ -132,6 +133,38 @@ fn texts_and_sheets_are_turned() {
     assert_eq!(outputs(to_sheet, &[b'7'; 3_145_729]), told("too long\n"));
     assert_eq!(outputs(to_tape, &[0; 1_048_576]), told("refused 3 0\n"));
     assert_eq!(outputs(to_tape, &[0; 1_048_577]), told("too long\n"));
+}
+
+#[test]
+fn sheets_are_moved() {
+    let (to_new, to_old) = (&["to-new-header"][..], &["to-old-header"][..]);
+    let told = |text: &str| (Vec::new(), text.to_string());
+    let nickel = nickel_sheet();
+    let moved = [&[6, 0, 4, 1, 0, 0, 0], &nickel[6..]].concat();
+    assert_eq!(outputs(to_new, &nickel), (moved.clone(), String::new()));
+    assert_eq!(outputs(to_old, &moved), (nickel.clone(), String::new()));
+    assert_eq!(outputs(to_new, &moved), told("refused 19 0\n"));
+    assert_eq!(outputs(to_old, &nickel), told("refused 19 0\n"));
+    assert_eq!(outputs(to_old, &third_wednesday_sheet()), told("refused 19 0\n"));
+    for words in [to_new, to_old] {
+        assert_eq!(outputs(words, b""), told("refused 2 0\n"));
+        assert_eq!(outputs(words, &nickel[..129]), told("refused 2 123\n"));
+        assert_eq!(outputs(words, &moved[..130]), told("refused 2 124\n"));
+        assert_eq!(outputs(words, &[0; 1_048_576]), told("refused 3 0\n"));
+        assert_eq!(outputs(words, &[0; 1_048_577]), told("too long\n"));
+    }
+}
+
+/// The longest sheet with the old header is 1, and a byte less can be moved.
+#[test]
+fn the_longest_sheets_are_moved() {
+    let cases = named_moves().into_iter().filter(|case| case.to_new && case.sheet.first() == Some(&1));
+    let longest: Vec<_> = cases.filter(|case| case.sheet.len() >= 1_048_575).collect();
+    let of = |bytes: usize| longest.iter().find(|case| case.sheet.len() == bytes).unwrap();
+    let (output, error) = outputs(&["to-new-header"], &of(1_048_575).sheet);
+    assert_eq!((Ok(output), error), (of(1_048_575).told.clone(), String::new()));
+    let refused = outputs(&["to-new-header"], &of(1_048_576).sheet);
+    assert_eq!(refused, (Vec::new(), "refused 1 0\n".to_string()));
 }
 
 #[test]

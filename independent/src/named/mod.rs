@@ -6,6 +6,7 @@ mod barred;
 mod edges;
 mod fields;
 mod longest;
+pub mod moves;
 mod order;
 mod papers;
 mod pricing;
