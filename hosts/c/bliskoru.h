@@ -214,7 +214,7 @@ uint8_t bliskoru_sheet_to_tape(const uint8_t *sheet, size_t sheet_len, uint8_t *
  * Each of the two moves a sheet to another header, for readers that know one alone. Metal, marks and all bytes behind the header are the same, the
  * end's count too, and so are the answers. Moved back it is the first sheet.
  *   sheet, sheet_len  the sheet
- *   out, out_len      where the moved sheet goes; BLISKORU_LONGEST_SHEET bytes are always enough, and so are sheet_len and one
+ *   out, out_len      where the moved sheet goes; BLISKORU_LONGEST_SHEET bytes are always enough, and so is a byte more than sheet_len
  *   length            the moved sheet's length
  *   at                the refusal's byte
  * Yes: 0. The moved sheet stands at the start of out, and *length is its length. The bytes of out behind it and *at stay as they were.
