@@ -449,3 +449,11 @@ size_t limit_list(const uint8_t *sheet, size_t len, uint8_t *out, size_t room) {
     memcpy(out, own, length);
     return length;
 }
+
+uint8_t limit_to_new_header(const uint8_t *sheet, size_t len, uint8_t *out, size_t room, size_t *length, size_t *at) {
+    return moved(limit_judge, 6, sheet, len, out, room, length, at);
+}
+
+uint8_t limit_to_old_header(const uint8_t *sheet, size_t len, uint8_t *out, size_t room, size_t *length, size_t *at) {
+    return moved(limit_judge, 1, sheet, len, out, room, length, at);
+}

@@ -127,3 +127,11 @@ uint8_t plain_answers(const uint8_t *sheet, size_t len, uint64_t *answers, size_
     price(sheet, totals, spans, (void *)sheet, answers);
     return 0;
 }
+
+uint8_t plain_to_new_header(const uint8_t *sheet, size_t len, uint8_t *out, size_t room, size_t *length, size_t *at) {
+    return moved(plain_judge, 6, sheet, len, out, room, length, at);
+}
+
+uint8_t plain_to_old_header(const uint8_t *sheet, size_t len, uint8_t *out, size_t room, size_t *length, size_t *at) {
+    return moved(plain_judge, 1, sheet, len, out, room, length, at);
+}

@@ -1,7 +1,9 @@
-/* What plain.c and limit.c have in common: big-endian loads, the tables of docs/RULES.md, and pricing once the trades of a day are added up. */
+/* What plain.c and limit.c have in common: big-endian loads, the tables of docs/RULES.md, pricing once the trades of a day are added up, and a
+   judged sheet copied behind another header. */
 #ifndef PRICING_H
 #define PRICING_H
 
+#include <stddef.h>
 #include <stdint.h>
 #include <string.h>
 
@@ -126,6 +128,22 @@ INLINE void price(Bytes sheet, const struct total *totals, Indicated *indicated,
         if (k == named) take(k, closes, rows);
         else open = contract(k, 1, totals, less, indicated, day, closes, rows + 3 * k);
     for (; k < CONTRACTS; k++) rows[3 * k] = 15, rows[3 * k + 1] = rows[3 * k + 2] = 0;
+}
+
+/* A sheet judged, and copied behind the header with this tag: 6 for the long one, 1 for the short one. */
+typedef uint8_t Judging(const uint8_t *sheet, size_t len, size_t *at);
+INLINE uint8_t moved(Judging *judge, int tag, Bytes sheet, size_t len, uint8_t *out, size_t room, size_t *length, size_t *at) {
+    uint8_t number = judge(sheet, len, at);
+    if (number) return number;
+    size_t from = sheet[0] == 6 ? 7 : 6, to = tag == 6 ? 7 : 6, size = len - from + to;
+    number = sheet[0] == tag || third(sheet).named != NOTHING ? 19 : size > LONGEST ? 1 : size > room ? 16 : 0;
+    if (number) return *at = 0, number;
+    memcpy(out + to, sheet + from, len - from);
+    if (tag == 6) out[6] = 0;
+    memcpy(out + 3, sheet + 3, 3);
+    out[0] = (uint8_t)tag, out[1] = 0, out[2] = (uint8_t)(to - 3);
+    *length = size;
+    return 0;
 }
 
 #endif

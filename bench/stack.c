@@ -13,8 +13,8 @@
 enum { STACK = 1 << 20, PAINT = 0xA5 };
 
 static uint8_t stack[STACK] __attribute__((aligned(64)));
-static uint8_t sheet[1048576], out[512], tape[3 * sizeof sheet], again[sizeof sheet];
-static size_t len, tape_len, again_len, place;
+static uint8_t sheet[1048576], out[512], tape[3 * sizeof sheet], again[sizeof sheet], moved[sizeof sheet];
+static size_t len, tape_len, again_len, moved_len, place;
 static uint64_t answers[18];
 static int64_t values[6];
 static ucontext_t here, there;
@@ -30,6 +30,8 @@ static void read_all(void) {
 }
 static void to_tape(void) { bliskoru_sheet_to_tape(sheet, len, tape, sizeof tape, &tape_len, &place); }
 static void to_sheet(void) { bliskoru_tape_to_sheet(tape, tape_len, again, sizeof again, &again_len, &place); }
+static void to_new(void) { bliskoru_to_new_header(sheet, len, moved, sizeof moved, &moved_len, &place); }
+static void to_old(void) { bliskoru_to_old_header(moved, moved_len, again, sizeof again, &again_len, &place); }
 static void write_each(void) {
     bliskoru_write_header(out, sizeof out, 0, 1, 0, &place);
     bliskoru_write_long_header(out, sizeof out, 0, 1, 0, 1, &place);
@@ -73,7 +75,7 @@ int main(int count, char **names) {
         int n = snprintf(line, sizeof line, "%s, %zu bytes\n", names[i], len);
         if (write(1, line, n) != n) return 1;
         say("list", list), say("judge", judge), say("answers", price), say("read", read_all), say("write", write_each);
-        say("to-tape", to_tape), say("to-sheet", to_sheet);
+        say("to-tape", to_tape), say("to-sheet", to_sheet), say("to-new", to_new), say("to-old", to_old);
     }
     return 0;
 }

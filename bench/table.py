@@ -8,6 +8,7 @@ SHEETS = {'trades': 'mostly trades', 'quotes': 'mostly quotes', 'twap': 'all by 
 SIDES = ['library', 'independent', 'plain', 'limit']
 WORKS = ['judge', 'read', 'list', 'answers']
 ON_TEXTS = ['to-sheet', 'to-tape']
+MOVES = ['to-new', 'to-old']
 TEXTS = {'trades': 'mostly trades', 'quotes': 'mostly quotes', 'widest': 'longest lines'}
 
 
@@ -16,7 +17,7 @@ def numbers(name):
     found = {}
     with open(name, encoding='utf-8') as lines:
         for line in lines:
-            words = re.match(r'(judge|read|list|answers|to-sheet|to-tape) +(\w+) +(\d+) ', line)
+            words = re.match(r'(judge|read|list|answers|to-sheet|to-tape|to-new|to-old) +(\w+) +(\d+) ', line)
             if words:
                 work, sheet, size = words.groups()
                 found[work, sheet, int(size)] = {side: float(number) for side, number in re.findall(r'([a-z]+) ([\d.]+) \(', line)}
@@ -77,6 +78,20 @@ def text_table(times, counts):
     print()
 
 
+def move_table(times, counts):
+    """Markdown: a row for each move, with instructions a byte of the sheet with the short header."""
+    print('| Work | Sheet | Bytes | library | ' + ' | '.join(f'library / {other}' for other in SIDES[1:])
+          + f' | instructions a byte ({" / ".join(SIDES)}) |')
+    print('|---|---|---:|---:|' + '---:|' * len(SIDES))
+    for key, least in times.items():
+        work, sheet, size = key
+        if work in MOVES:
+            each = ' / '.join(figure(counts[key][side] / size) if key in counts else '–' for side in SIDES)
+            print(f'| {work} | {SHEETS[sheet]} | {size:,} | {time(least["library"])} | '
+                  + ' | '.join(ratio(least, other) for other in SIDES[1:]) + f' | {each} |')
+    print()
+
+
 def text_counts(counts):
     """The same without times."""
     print('| Work | Text | Bytes of text | instructions a byte (library / independent) | library / independent |')
@@ -107,6 +122,7 @@ def main():
     table(times, [head for other in SIDES[1:] for head in by_size(f'library / {other}')], ratios)
     table(times, by_size('library') + counted(SIDES), own)
     text_table(times, counts)
+    move_table(times, counts)
 
 
 main()

@@ -14,8 +14,10 @@ size_t second_list(const uint8_t *sheet, size_t len, uint8_t *out, size_t room);
 uint8_t second_read(const uint8_t *sheet, size_t len, size_t at, int64_t values[6], size_t *next);
 uint8_t second_tape_to_sheet(const uint8_t *tape, size_t len, uint8_t *sheet, size_t room, size_t *length, size_t *at);
 uint8_t second_sheet_to_tape(const uint8_t *sheet, size_t len, uint8_t *tape, size_t room, size_t *length, size_t *at);
+uint8_t second_to_new_header(const uint8_t *sheet, size_t len, uint8_t *out, size_t room, size_t *length, size_t *at);
+uint8_t second_to_old_header(const uint8_t *sheet, size_t len, uint8_t *out, size_t room, size_t *length, size_t *at);
 
-static unsigned long compared, accepted, priced, texts;
+static unsigned long compared, accepted, priced, texts, moved;
 
 static void differ(const char *what, long long library, long long second) {
     fprintf(stderr, "DIFFERENCE in %s: library %lld, independent %lld\n", what, library, second);
@@ -85,7 +87,8 @@ static void compare_prices(const uint8_t *sheet, size_t len) {
 typedef uint8_t turning(const uint8_t *, size_t, uint8_t *, size_t, size_t *, size_t *);
 static const struct turn {
     turning *library, *second;
-} to_sheet = {bliskoru_tape_to_sheet, second_tape_to_sheet}, to_tape = {bliskoru_sheet_to_tape, second_sheet_to_tape};
+} to_sheet = {bliskoru_tape_to_sheet, second_tape_to_sheet}, to_tape = {bliskoru_sheet_to_tape, second_sheet_to_tape},
+  to_new = {bliskoru_to_new_header, second_to_new_header}, to_old = {bliskoru_to_old_header, second_to_old_header};
 
 /* What both make of the same bytes in so much room, which is left in `out`; its length, or 0. */
 static size_t compare_turned(const struct turn *turn, const uint8_t *bytes, size_t len, uint8_t *out, size_t room) {
@@ -100,7 +103,8 @@ static size_t compare_turned(const struct turn *turn, const uint8_t *bytes, size
     return length;
 }
 
-/* Bytes turned as a tape or as a sheet: in ample room, and where they are accepted in exact room, in a byte less, and back again. */
+/* Bytes turned as a tape or as a sheet, or moved to another header: in ample room, and where they are accepted in exact room, in a byte less, and
+   back again. */
 static int compare_there_and_back(const struct turn *there, const struct turn *back, const uint8_t *bytes, size_t len) {
     static uint8_t turned[ROOM], again[ROOM];
     size_t length = compare_turned(there, bytes, len, turned, ROOM);
@@ -113,7 +117,8 @@ static int compare_there_and_back(const struct turn *there, const struct turn *b
 }
 
 static void report(void) {
-    fprintf(stderr, "%lu sheets and texts compared, %lu sheets accepted, %lu of these priced; %lu texts accepted\n", compared, accepted, priced, texts);
+    fprintf(stderr, "%lu sheets and texts compared, %lu sheets accepted, %lu of these priced, %lu moved to another header; %lu texts accepted\n",
+            compared, accepted, priced, moved, texts);
 }
 
 int LLVMFuzzerInitialize(int *count, char ***words) {
@@ -133,6 +138,7 @@ int LLVMFuzzerTestOneInput(const uint8_t *sheet, size_t len) {
     compare_prices(sheet, len);
     compare_there_and_back(&to_tape, &to_sheet, sheet, len);
     texts += compare_there_and_back(&to_sheet, &to_tape, sheet, len);
+    moved += compare_there_and_back(&to_new, &to_old, sheet, len) + compare_there_and_back(&to_old, &to_new, sheet, len);
     compared++;
     return 0;
 }

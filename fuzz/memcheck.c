@@ -66,7 +66,7 @@ static void price(const uint8_t *sheet, size_t len) {
     free(answers), free(at);
 }
 
-/* One of the two functions that turn a tape into a sheet and a sheet into a tape. */
+/* One of the four functions that make a sheet or a tape of another. */
 typedef uint8_t turning(const uint8_t *, size_t, uint8_t *, size_t, size_t *, size_t *);
 
 /* Turned into a buffer of this size: whole, or not a byte changed. Its length, or 0. */
@@ -110,8 +110,14 @@ static void as_text(const uint8_t *bytes, size_t len) {
     free(tape);
 }
 
-/* Judged, read at every place (a long sheet at a few), turned into text, and priced where that is quick, or where it is this sheet's turn: a
-   contract by TWAP visits 300,000 milliseconds, which takes valgrind a while. */
+/* Moved to either header. */
+static void moves(const uint8_t *sheet, size_t len) {
+    there_and_back(bliskoru_to_new_header, bliskoru_to_old_header, sheet, len);
+    there_and_back(bliskoru_to_old_header, bliskoru_to_new_header, sheet, len);
+}
+
+/* Judged, read at every place (a long sheet at a few), turned into text, moved to either header, and priced where that is quick, or where it is
+   this sheet's turn: a contract by TWAP visits 300,000 milliseconds, which takes valgrind a while. */
 static void everything(const uint8_t *bytes, size_t len) {
     uint8_t *sheet = copy(bytes, len);
     size_t *at = block(sizeof *at);
@@ -124,6 +130,7 @@ static void everything(const uint8_t *bytes, size_t len) {
     for (size_t place = 0; place <= len + 3; place += step) read_at(sheet, len, place);
     read_at(sheet, len, SIZE_MAX), read_at(sheet, len, SIZE_MAX - 2);
     there_and_back(bliskoru_sheet_to_tape, bliskoru_tape_to_sheet, sheet, len);
+    moves(sheet, len);
     free(sheet), free(at);
 }
 
@@ -190,6 +197,23 @@ static void longest(void) {
     free(sheet);
 }
 
+/* The longest sheet with a short header that can be moved, 1,048,575 bytes, and the longest there is, which cannot: 14 bytes a trade, 17 a quote. */
+static void longest_moves(void) {
+    static const size_t trades[2] = {74890, 74884}, quotes[2] = {6, 11};
+    for (int i = 0; i < 2; i++) {
+        size_t len = 6 + 14 * trades[i] + 17 * quotes[i] + 7, at = 0;
+        uint8_t *sheet = block(len);
+        bliskoru_write_header(sheet, len, at, 1, 0, &at);
+        for (size_t k = 0; k < trades[i]; k++) bliskoru_write_trade(sheet, len, at, 58500000, 0, 1800000, 1, &at);
+        for (size_t k = 0; k < quotes[i]; k++) bliskoru_write_quote(sheet, len, at, 58500000, 0, 0, 0, 0, &at);
+        bliskoru_write_end(sheet, len, at, 1 + trades[i] + quotes[i], &at);
+        calls += 2 + trades[i] + quotes[i];
+        if (turn_in_room(bliskoru_to_new_header, sheet, at, len + 1) != (len < LIMIT ? len + 1 : 0)) fail("a long sheet's move");
+        moves(sheet, len);
+        free(sheet);
+    }
+}
+
 /* A text of the longest sheet that has trades alone behind a long header, 74,897 of them, and one with a line more. */
 static void longest_text(void) {
     static const char metal[] = "METAL,Nickel,0,1\n", trade[] = "58500000,3M,TRADE,18000.00,10000\n";
@@ -233,13 +257,20 @@ static void stream(const char *name, look *each) {
     free(bytes);
 }
 
-/* Every cut and every flipped bit of a file, and what it is turned into in each room up to 300 bytes. */
+/* What it is turned into in each room up to 300 bytes. */
+static void rooms(turning *turn, const uint8_t *bytes, size_t len) {
+    uint8_t *exact = copy(bytes, len);
+    for (size_t room = 0; room <= 300; room++) turn_in_room(turn, exact, len, room);
+    free(exact);
+}
+
+/* Every cut and every flipped bit of a file, and what it is turned into in each room. */
 static void around(const char *name, look *each, turning *turn) {
     size_t len;
-    uint8_t *given = file(name, &len), *exact = copy(given, len);
+    uint8_t *given = file(name, &len);
     cuts(each, given, len), flips(each, given, len);
-    for (size_t room = 0; room <= 300; room++) turn_in_room(turn, exact, len, room);
-    free(given), free(exact);
+    rooms(turn, given, len);
+    free(given);
 }
 
 int main(int count, char **names) {
@@ -247,15 +278,17 @@ int main(int count, char **names) {
     around(names[1], everything, bliskoru_sheet_to_tape);
     around(names[2], as_text, bliskoru_tape_to_sheet);
 
-    uint8_t made[200];
-    size_t len = quick_sheet(made, sizeof made);
+    uint8_t made[200], old[200];
+    size_t len = quick_sheet(made, sizeof made), old_len = turn_into(bliskoru_to_old_header, made, len, old, sizeof old);
     cuts(everything, made, len), flips(everything, made, len);
+    rooms(bliskoru_to_old_header, made, len), rooms(bliskoru_to_new_header, old, old_len);
     uint8_t *quick = copy(made, len);
     for (size_t room = 0; room <= LIST; room++) list_into(quick, len, room);
     free(quick);
 
     writers();
     longest();
+    longest_moves();
     longest_text();
     stream(names[3], everything);
     stream(names[4], as_text);

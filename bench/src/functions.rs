@@ -35,25 +35,86 @@ extern "C" {
         length: *mut usize,
         at: *mut usize,
     ) -> u8;
+    fn bliskoru_to_new_header(
+        sheet: *const u8,
+        len: usize,
+        out: *mut u8,
+        room: usize,
+        length: *mut usize,
+        at: *mut usize,
+    ) -> u8;
+    fn bliskoru_to_old_header(
+        sheet: *const u8,
+        len: usize,
+        out: *mut u8,
+        room: usize,
+        length: *mut usize,
+        at: *mut usize,
+    ) -> u8;
 
     fn plain_judge(sheet: *const u8, len: usize, at: *mut usize) -> u8;
     fn plain_answers(sheet: *const u8, len: usize, rows: *mut Rows, at: *mut usize) -> u8;
     fn plain_read(sheet: *const u8, len: usize, at: usize, values: *mut Values, next: *mut usize) -> u8;
+    fn plain_to_new_header(
+        sheet: *const u8,
+        len: usize,
+        out: *mut u8,
+        room: usize,
+        length: *mut usize,
+        at: *mut usize,
+    ) -> u8;
+    fn plain_to_old_header(
+        sheet: *const u8,
+        len: usize,
+        out: *mut u8,
+        room: usize,
+        length: *mut usize,
+        at: *mut usize,
+    ) -> u8;
 
     fn limit_list(sheet: *const u8, len: usize, out: *mut u8, room: usize) -> usize;
     fn limit_judge(sheet: *const u8, len: usize, at: *mut usize) -> u8;
     fn limit_answers(sheet: *const u8, len: usize, rows: *mut Rows, at: *mut usize) -> u8;
     fn limit_read(sheet: *const u8, len: usize, at: usize, values: *mut Values, next: *mut usize) -> u8;
+    fn limit_to_new_header(
+        sheet: *const u8,
+        len: usize,
+        out: *mut u8,
+        room: usize,
+        length: *mut usize,
+        at: *mut usize,
+    ) -> u8;
+    fn limit_to_old_header(
+        sheet: *const u8,
+        len: usize,
+        out: *mut u8,
+        room: usize,
+        length: *mut usize,
+        at: *mut usize,
+    ) -> u8;
 }
 
 /// One side's list; `plain.c` has none.
 pub struct Lister(unsafe extern "C" fn(*const u8, usize, *mut u8, usize) -> usize);
 
-/// The library's turning of a tape into a sheet, or back; the C programs have none.
+/// What makes a sheet or a text of another. The C programs have no texts.
 pub struct Turner(unsafe extern "C" fn(*const u8, usize, *mut u8, usize, *mut usize, *mut usize) -> u8);
 
 pub const LIBRARY_TO_SHEET: Turner = Turner(bliskoru_tape_to_sheet);
 pub const LIBRARY_TO_TAPE: Turner = Turner(bliskoru_sheet_to_tape);
+
+/// One side's moves of a sheet to the long header and to the short one.
+pub struct Mover {
+    pub to_new: Turner,
+    pub to_old: Turner,
+}
+
+pub const LIBRARY_MOVES: Mover =
+    Mover { to_new: Turner(bliskoru_to_new_header), to_old: Turner(bliskoru_to_old_header) };
+pub const PLAIN_MOVES: Mover =
+    Mover { to_new: Turner(plain_to_new_header), to_old: Turner(plain_to_old_header) };
+pub const LIMIT_MOVES: Mover =
+    Mover { to_new: Turner(limit_to_new_header), to_old: Turner(limit_to_old_header) };
 
 pub const LIBRARY: Functions =
     Functions { judge: bliskoru_judge, answers: bliskoru_answers, read: bliskoru_read };

@@ -5,12 +5,14 @@
 //! * [`second`]    the independent program's, in the same shapes
 //! * [`sheets`]    the sheets that are timed
 //! * [`tapes`]     the texts that are timed
+//! * [`moves`]     the sheets whose moves to another header are timed
 //! * [`damaged`]   the sheets that are only compared
 //! * [`same`]      the four sides held to one another
 //! * [`work`]      the pieces of work, by name, for each side
 
 pub mod damaged;
 pub mod functions;
+pub mod moves;
 pub mod same;
 pub mod second;
 pub mod sheets;

@@ -1,10 +1,11 @@
 //! Holds the four sides to one another, then times each piece of work on every sheet or text, the ways to do it
 //! taking turns in one loop, and keeps the least time of each. `bench compare` does the first part alone.
 
-use bench::same::{agree, agree_on_tape, compare};
+use bench::moves;
+use bench::same::{agree, agree_on_moves, agree_on_tape, compare};
 use bench::sheets::{sheet, KINDS, SIZES};
 use bench::tapes;
-use bench::work::{Way, Work, ALL, ON_TAPES};
+use bench::work::{Way, Work, ALL, ON_MOVES, ON_TAPES};
 use std::process::ExitCode;
 use std::time::{Duration, Instant};
 
@@ -42,7 +43,7 @@ fn least_times(work: &Work, sheet: &[u8]) -> (Vec<f64>, usize) {
     (least, rounds)
 }
 
-/// One line of times over a sheet, or over a text of so many bytes or its sheet: each way's nanoseconds, and
+/// One line of times over what is given of a sheet or a text of so many bytes: each way's nanoseconds, and
 /// library / it.
 fn time(work: &Work, kind: &str, bytes: usize, given: &[u8]) {
     let (times, rounds) = least_times(work, given);
@@ -71,14 +72,25 @@ fn run(names: &[String]) -> Result<(), String> {
             }
         }
     }
-    ON_TAPES.iter().filter(is_named).try_for_each(run_on_tapes)
+    ON_TAPES.iter().filter(is_named).try_for_each(run_on_tapes)?;
+    ON_MOVES.iter().filter(is_named).try_for_each(run_on_moves)
 }
 
 fn run_on_tapes(work: &Work) -> Result<(), String> {
     for kind in tapes::KINDS {
         for tape in tapes::SIZES.map(|bytes| tapes::tape(kind, bytes)) {
             agree_on_tape(&tape)?;
-            time(work, kind.name(), tape.len(), &work.given(&tape));
+            time(work, kind.name(), tape.len(), &(work.given)(&tape));
+        }
+    }
+    Ok(())
+}
+
+fn run_on_moves(work: &Work) -> Result<(), String> {
+    for kind in moves::KINDS {
+        for sheet in moves::SIZES.map(|bytes| sheet(kind, bytes)) {
+            agree_on_moves(&sheet)?;
+            time(work, kind.name(), sheet.len(), &(work.given)(&sheet));
         }
     }
     Ok(())

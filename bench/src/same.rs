@@ -1,9 +1,12 @@
 //! The four sides held to one another over a sheet: judgement, fields, answers and list, and every byte that a
-//! call leaves as it was. The two that have texts are held to one another over these.
+//! call leaves as it was. The two that have texts are held to one another over these, and all four over moves to
+//! another header.
 
 use crate::damaged::visit_all;
-use crate::functions::{Functions, Lister, Rows, Turner, Values};
+use crate::functions::{Functions, Lister, Mover, Rows, Turner, Values};
 use crate::functions::{LIBRARY, LIBRARY_LIST, LIBRARY_TO_SHEET, LIBRARY_TO_TAPE, LIMIT, LIMIT_LIST, PLAIN};
+use crate::functions::{LIBRARY_MOVES, LIMIT_MOVES, PLAIN_MOVES};
+use crate::moves::moved;
 use crate::second;
 use crate::tapes::sheet_of;
 use independent::list::closing_list_by_spans;
@@ -155,15 +158,15 @@ pub fn agree(sheet: &[u8]) -> Result<(), String> {
     look().map_err(|difference| format!("{difference}\n{}", shown(sheet)))
 }
 
-/// Turned by the library in room with bytes behind it, in exact room, and in a byte less, where nothing changes.
-fn look_at_turning(side: &Turner, bytes: &[u8], turned: &[u8]) -> Result<(), String> {
+/// Turned by a side in room with bytes behind it, in exact room, and in a byte less, where nothing changes.
+fn look_at_turning(name: &str, side: &Turner, bytes: &[u8], turned: &[u8]) -> Result<(), String> {
     for room in [turned.len() + 1, turned.len(), turned.len() - 1] {
         let mut out = vec![FILL; room];
         let fits = room >= turned.len();
         let (wanted, length) = if fits { (Ok(turned.len()), turned.len()) } else { (Err((16, 0)), 0) };
-        same("a turning", "library", side.turn(bytes, &mut out), wanted)?;
+        same("a turning", name, side.turn(bytes, &mut out), wanted)?;
         let behind = out[length..].iter().all(|byte| *byte == FILL);
-        same("what is turned", "library", out[..length] == turned[..length] && behind, true)?;
+        same("what is turned", name, out[..length] == turned[..length] && behind, true)?;
     }
     Ok(())
 }
@@ -171,8 +174,24 @@ fn look_at_turning(side: &Turner, bytes: &[u8], turned: &[u8]) -> Result<(), Str
 /// An accepted text and its sheet by the independent program, each made of the other by the library.
 pub fn agree_on_tape(tape: &[u8]) -> Result<(), String> {
     let sheet = sheet_of(tape);
-    look_at_turning(&LIBRARY_TO_SHEET, tape, &sheet)?;
-    look_at_turning(&LIBRARY_TO_TAPE, &sheet, tape)
+    look_at_turning("library", &LIBRARY_TO_SHEET, tape, &sheet)?;
+    look_at_turning("library", &LIBRARY_TO_TAPE, &sheet, tape)
+}
+
+const MOVERS: [(&str, &Mover); 3] =
+    [("library", &LIBRARY_MOVES), ("plain", &PLAIN_MOVES), ("limit", &LIMIT_MOVES)];
+
+/// An accepted sheet with a short header and the same with a long one by the independent program, each made of the
+/// other by all others, and none moved to the header that it has.
+pub fn agree_on_moves(sheet: &[u8]) -> Result<(), String> {
+    let moved = moved(sheet);
+    for (name, side) in MOVERS {
+        look_at_turning(name, &side.to_new, sheet, &moved)?;
+        look_at_turning(name, &side.to_old, &moved, sheet)?;
+        same("a move", name, side.to_new.turn(&moved, &mut []), Err((19, 0)))?;
+        same("a move", name, side.to_old.turn(sheet, &mut []), Err((19, 0)))?;
+    }
+    Ok(())
 }
 
 /// The four sides over all sheets made for it: how many, or the first difference.

@@ -1,10 +1,12 @@
 //! The pieces of work that are timed and counted, by name, for each side.
 
 use crate::functions::{Functions, Lister, Turner, Values, LIBRARY, LIBRARY_LIST, LIMIT, LIMIT_LIST, PLAIN};
-use crate::functions::{LIBRARY_TO_SHEET, LIBRARY_TO_TAPE};
+use crate::functions::{LIBRARY_MOVES, LIBRARY_TO_SHEET, LIBRARY_TO_TAPE, LIMIT_MOVES, PLAIN_MOVES};
+use crate::moves;
 use crate::second;
 use crate::tapes::sheet_of;
 use independent::list::{closing_list, closing_list_by_spans};
+use independent::moves::{to_new_header, to_old_header};
 use independent::tables::SHEET_LIMIT;
 use independent::tape::{sheet_to_tape, tape_to_sheet, TAPE_LIMIT};
 use std::cell::RefCell;
@@ -20,6 +22,8 @@ pub struct Work {
     pub name: &'static str,
     /// The longest sheet or text it is done over.
     pub limit: usize,
+    /// What the ways are given of a sheet or a text: itself, or what is made of it.
+    pub given: fn(&[u8]) -> Vec<u8>,
     pub ways: &'static [Way],
 }
 
@@ -69,6 +73,7 @@ pub const ALL: [Work; 4] = [
     Work {
         name: "judge",
         limit: 1_048_576,
+        given: <[u8]>::to_vec,
         ways: &[
             Way { side: "library", run: |sheet| hold(LIBRARY.judge(sheet)) },
             Way { side: "independent", run: |sheet| hold(second::judge(sheet)) },
@@ -79,6 +84,7 @@ pub const ALL: [Work; 4] = [
     Work {
         name: "read",
         limit: 1_048_576,
+        given: <[u8]>::to_vec,
         ways: &[
             Way { side: "library", run: |sheet| walk(&LIBRARY, sheet) },
             Way { side: "independent", run: walk_second },
@@ -89,6 +95,7 @@ pub const ALL: [Work; 4] = [
     Work {
         name: "list",
         limit: 65_536,
+        given: <[u8]>::to_vec,
         ways: &[
             Way { side: "library", run: |sheet| list(&LIBRARY_LIST, sheet) },
             Way { side: "independent", run: |sheet| hold(closing_list_by_spans(sheet)) },
@@ -99,6 +106,7 @@ pub const ALL: [Work; 4] = [
     Work {
         name: "answers",
         limit: 1_048_576,
+        given: <[u8]>::to_vec,
         ways: &[
             Way { side: "library", run: |sheet| hold(LIBRARY.answers(sheet)) },
             Way { side: "independent", run: |sheet| hold(second::answers_by_spans(sheet)) },
@@ -114,6 +122,7 @@ pub const ON_TAPES: [Work; 2] = [
     Work {
         name: "to-sheet",
         limit: TAPE_LIMIT,
+        given: <[u8]>::to_vec,
         ways: &[
             Way { side: "library", run: |tape| turn(&LIBRARY_TO_SHEET, tape) },
             Way { side: "independent", run: |tape| hold(tape_to_sheet(tape, SHEET_LIMIT)) },
@@ -122,6 +131,7 @@ pub const ON_TAPES: [Work; 2] = [
     Work {
         name: "to-tape",
         limit: TAPE_LIMIT,
+        given: sheet_of,
         ways: &[
             Way { side: "library", run: |sheet| turn(&LIBRARY_TO_TAPE, sheet) },
             Way { side: "independent", run: |sheet| hold(sheet_to_tape(sheet, TAPE_LIMIT)) },
@@ -129,13 +139,28 @@ pub const ON_TAPES: [Work; 2] = [
     },
 ];
 
-impl Work {
-    /// What a work over texts is given of one: the text, or its sheet.
-    pub fn given(&self, tape: &[u8]) -> Vec<u8> {
-        if self.name == "to-sheet" {
-            tape.to_vec()
-        } else {
-            sheet_of(tape)
-        }
-    }
-}
+/// The same for moves: a sheet moved to the long header, and the moved one back to the short one. The C programs copy what they judged.
+pub const ON_MOVES: [Work; 2] = [
+    Work {
+        name: "to-new",
+        limit: moves::LONGEST,
+        given: <[u8]>::to_vec,
+        ways: &[
+            Way { side: "library", run: |sheet| turn(&LIBRARY_MOVES.to_new, sheet) },
+            Way { side: "independent", run: |sheet| hold(to_new_header(sheet, SHEET_LIMIT)) },
+            Way { side: "plain", run: |sheet| turn(&PLAIN_MOVES.to_new, sheet) },
+            Way { side: "limit", run: |sheet| turn(&LIMIT_MOVES.to_new, sheet) },
+        ],
+    },
+    Work {
+        name: "to-old",
+        limit: moves::LONGEST,
+        given: moves::moved,
+        ways: &[
+            Way { side: "library", run: |sheet| turn(&LIBRARY_MOVES.to_old, sheet) },
+            Way { side: "independent", run: |sheet| hold(to_old_header(sheet, SHEET_LIMIT)) },
+            Way { side: "plain", run: |sheet| turn(&PLAIN_MOVES.to_old, sheet) },
+            Way { side: "limit", run: |sheet| turn(&LIMIT_MOVES.to_old, sheet) },
+        ],
+    },
+];

@@ -1,6 +1,6 @@
 /*
- * Bliskoru for C and C++: a day sheet's closing list, its judgement and its six answers, single fields read and written, and a text tape turned
- * into a sheet and back.
+ * Bliskoru for C and C++: a day sheet's closing list, its judgement and its six answers, single fields read and written, a text tape turned into
+ * a sheet and back, and a sheet moved to the long header and back to the short one.
  *
  * Link with target/staticlib/libbliskoru.a, which `rt staticlib bliskoru` writes. It needs memcpy and memset and nothing else.
  * docs/SHEET.md has the numbers, ranges and layouts, docs/TAPE.md the lines of a text tape, docs/RULES.md the prices, docs/HOSTS.md how to embed
@@ -30,7 +30,7 @@ extern "C" {
 /* What a function says: yes, or the refusal's number (docs/SHEET.md, section 4). */
 enum bliskoru_number {
     BLISKORU_YES = 0,
-    BLISKORU_SHEET_TOO_LONG = 1,      /* a sheet of more than 1,048,576 bytes, or a tape of which such a one would be made */
+    BLISKORU_SHEET_TOO_LONG = 1,      /* a sheet of more than 1,048,576 bytes, or a tape or a move of which such a one would be made */
     BLISKORU_BYTES_MISSING = 2,       /* bytes of a field are missing, or the end field is */
     BLISKORU_TAG = 3,                 /* no tag 1 to 6 */
     BLISKORU_LENGTH = 4,              /* another length than the tag has */
@@ -45,9 +45,10 @@ enum bliskoru_number {
     BLISKORU_NO_REFERENCE = 13,       /* contract: below 5 lots, and no reference at the window's first millisecond */
     BLISKORU_CLOSE_OUT_OF_RANGE = 14, /* contract: no close of 1 to 99,999,999 cents after rounding */
     BLISKORU_NOT_REACHED = 15,        /* contract: one before it was refused */
-    BLISKORU_DOES_NOT_FIT = 16,       /* writer: no room for the field at that place; tape: no room for the sheet or the text */
+    BLISKORU_DOES_NOT_FIT = 16,       /* writer: no room for the field at that place; tape, move: no room for the sheet or the text */
     BLISKORU_LINE = 17,               /* tape: a line that is malformed, or names what there is not */
-    BLISKORU_BARRED = 18              /* a field on an instrument that the header's third value bars, in a whole sheet or a tape */
+    BLISKORU_BARRED = 18,             /* a field on an instrument that the header's third value bars, in a whole sheet or a tape */
+    BLISKORU_HEADER_FORM = 19         /* move: the sheet has the wanted header already or, going back, names M3 or M4 */
 };
 
 /* How a contract was priced: the first number of its row. A refused contract has 13, 14 or 15 there. */
@@ -89,8 +90,9 @@ enum bliskoru_side {
     BLISKORU_OFFER = 2
 };
 
-/* It is raised whenever a function, a tag or a number is added: 1 has the sheet, 2 the text tape too, 3 the long header too. */
-#define BLISKORU_VERSION 3
+/* It is raised whenever a function, a tag or a number is added: 1 has the sheet, 2 the text tape too, 3 the long header too, 4 both
+   headers' moves too. */
+#define BLISKORU_VERSION 4
 
 #define BLISKORU_LONGEST_SHEET 1048576  /* bytes; a longer sheet is refused with 1 */
 #define BLISKORU_LONGEST_TAPE 3145728   /* bytes; no accepted sheet has a longer text */
@@ -207,6 +209,25 @@ uint8_t bliskoru_tape_to_sheet(const uint8_t *tape, size_t tape_len, uint8_t *sh
  *      tape and *length stay as they were.
  */
 uint8_t bliskoru_sheet_to_tape(const uint8_t *sheet, size_t sheet_len, uint8_t *tape, size_t tape_len, size_t *length, size_t *at);
+
+/*
+ * Each of the two moves a sheet to another header, for readers that know one alone. Metal, marks and all bytes behind the header are the same, the
+ * end's count too, and so are the answers. Moved back it is the first sheet.
+ *   sheet, sheet_len  the sheet
+ *   out, out_len      where the moved sheet goes; BLISKORU_LONGEST_SHEET bytes are always enough, and so is a byte more than sheet_len
+ *   length            the moved sheet's length
+ *   at                the refusal's byte
+ * Yes: 0. The moved sheet stands at the start of out, and *length is its length. The bytes of out behind it and *at stay as they were.
+ * No:  1 to 12 or 18, as bliskoru_judge says it; *at is the byte. Then 19 for the header that the sheet has, 1 for a moved sheet of more than
+ *      1,048,576 bytes, 16 for one of more than out_len, in this order; *at is 0.
+ *      out and *length stay as they were.
+ */
+
+/* To the new header: from the short one to a long one with the third value 0, a byte more. 19 for a long header. */
+uint8_t bliskoru_to_new_header(const uint8_t *sheet, size_t sheet_len, uint8_t *out, size_t out_len, size_t *length, size_t *at);
+
+/* To the old header: from a long one with the third value 0 to the short one, a byte less. 19 for a short header, or the third value 1 or 2. */
+uint8_t bliskoru_to_old_header(const uint8_t *sheet, size_t sheet_len, uint8_t *out, size_t out_len, size_t *length, size_t *at);
 
 #ifdef __cplusplus
 }

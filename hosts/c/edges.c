@@ -27,11 +27,11 @@ struct lent {
     uint64_t guard_5;
 };
 
-/* A line of a table: numbers, then bytes. */
+/* A line of a table: numbers, then bytes, in the table of moves the moved bytes behind them. */
 struct row {
     uint64_t numbers[BLISKORU_ANSWERS]; /* a negative one as its two's complement */
-    uint8_t bytes[ROOM];
-    size_t length;
+    uint8_t bytes[ROOM], moved[ROOM];
+    size_t length, moved_len;
     char text[2 * ROOM];
 };
 
@@ -72,11 +72,11 @@ static int digit_of(char c)
     return found == NULL ? -1 : (int)(found - digits);
 }
 
-/* The bytes of hexadecimal digits up to a comment or the line's end. */
+/* The bytes of hexadecimal digits up to a colon, a comment or the line's end. */
 static size_t bytes_of(const char *text, uint8_t *bytes)
 {
     size_t digits = 0;
-    for (; *text != '\0' && *text != '#'; text++) {
+    for (; *text != '\0' && *text != '#' && *text != ':'; text++) {
         int digit = digit_of(*text);
         if (digit < 0)
             continue;
@@ -103,7 +103,9 @@ static int next_row(FILE *table, struct row *row)
             row->numbers[k] = strtoull(number, &number, 10); /* it takes a minus as two's complement */
             number += strspn(number, " ");
         }
-        row->length = bytes_of(rest, row->bytes);
+        row->length = bytes_of(rest + 1, row->bytes);
+        rest += 1 + strcspn(rest + 1, ":#");
+        row->moved_len = *rest == ':' ? bytes_of(rest + 1, row->moved) : 0;
         return 1;
     }
     return 0;
@@ -200,9 +202,9 @@ static uint8_t *filled(size_t room)
     return buffer;
 }
 
-/* ---- tapes */
+/* ---- turnings: tapes into sheets, sheets into tapes, sheets into those with another header */
 
-/* One of the two functions that turn a tape into a sheet and a sheet into a tape. */
+/* One of the four functions that make a sheet or a tape of another. */
 typedef uint8_t turning(const uint8_t *, size_t, uint8_t *, size_t, size_t *, size_t *);
 
 /* What it has to say: a refusal at a place, or 0 and the bytes that then stand in the buffer. */
@@ -249,10 +251,11 @@ static void look_at_turning(turning *turn, const uint8_t *bytes, size_t length, 
     free(behind);
 }
 
-/* Room that is ample, exact, one byte too little, and none. */
+/* Room that is ample, one byte more, exact, one byte too little, and none. */
 static void look_at_rooms(turning *turn, const uint8_t *bytes, size_t length, struct turned told, const char *text)
 {
     look_at_turning(turn, bytes, length, told, told.length + 100, text);
+    look_at_turning(turn, bytes, length, told, told.length + 1, text);
     look_at_turning(turn, bytes, length, told, told.length, text);
     if (told.length > 0)
         look_at_turning(turn, bytes, length, told, told.length - 1, text);
@@ -290,6 +293,43 @@ static void each_tape(const char *folder, const char *name, unsigned long least)
     }
     fclose(table);
     expect(rows >= least, "the table has its lines", name);
+}
+
+/* ---- moves to another header */
+
+/* A sheet that neither move takes, for one and the same reason. */
+static void look_at_unmoved(const uint8_t *sheet, size_t length, uint8_t number, size_t byte, const char *text)
+{
+    look_at_rooms(bliskoru_to_new_header, sheet, length, refused_at(number, byte), text);
+    look_at_rooms(bliskoru_to_old_header, sheet, length, refused_at(number, byte), text);
+}
+
+/* An accepted sheet with a short header and the same with a long one, each moved to the other, and none to the header that it has. */
+static void look_at_moves(const uint8_t *old_sheet, size_t old_len, const uint8_t *new_sheet, size_t new_len, const char *text)
+{
+    const struct turned already = refused_at(BLISKORU_HEADER_FORM, 0);
+    look_at_rooms(bliskoru_to_new_header, old_sheet, old_len, turned_into(new_sheet, new_len), text);
+    look_at_rooms(bliskoru_to_old_header, new_sheet, new_len, turned_into(old_sheet, old_len), text);
+    look_at_rooms(bliskoru_to_new_header, new_sheet, new_len, already, text);
+    look_at_rooms(bliskoru_to_old_header, old_sheet, old_len, already, text);
+}
+
+/* A line of the table of moves in its own room; where it is moved in every room and back, and where it is refused but for room in every room. */
+static void look_at_move(const struct row *row)
+{
+    const uint8_t number = (uint8_t)row->numbers[2];
+    const int to_new = row->numbers[0] == BLISKORU_LONG_HEADER;
+    turning *move = to_new ? bliskoru_to_new_header : bliskoru_to_old_header;
+    struct turned told = refused_at(number, (size_t)row->numbers[3]);
+    if (number == BLISKORU_YES)
+        told = turned_into(row->moved, row->moved_len);
+    look_at_turning(move, row->bytes, row->length, told, (size_t)row->numbers[1], row->text);
+    if (number == BLISKORU_YES && to_new)
+        look_at_moves(row->bytes, row->length, row->moved, row->moved_len, row->text);
+    else if (number == BLISKORU_YES)
+        look_at_moves(row->moved, row->moved_len, row->bytes, row->length, row->text);
+    else if (number != BLISKORU_DOES_NOT_FIT)
+        look_at_rooms(move, row->bytes, row->length, told, row->text);
 }
 
 /* ---- whole sheets */
@@ -351,12 +391,36 @@ static void look_at_refused(const struct row *row)
     look_at_sheet(row->bytes, row->length, number, byte, NULL, row->text);
     look_at_list(row->bytes, row->length, list, row->text);
     look_at_rooms(bliskoru_sheet_to_tape, row->bytes, row->length, refused_at(number, byte), row->text);
+    look_at_unmoved(row->bytes, row->length, number, byte, row->text);
+}
+
+/* The sheet of a row, with a short header or with the third value 0, moved to the other header, which is laid out here: the same answers. */
+static void look_at_moved_answers(const struct row *row)
+{
+    static const uint8_t short_head[] = {1, 0, 3}, long_head[] = {6, 0, 4};
+    const int is_short = row->bytes[0] == BLISKORU_HEADER;
+    const size_t from = is_short ? 6 : 7, to = is_short ? 7 : 6, moved_len = row->length - from + to;
+    uint8_t *moved = memory(moved_len);
+    memcpy(moved, is_short ? long_head : short_head, 3);
+    memcpy(moved + 3, row->bytes + 3, 3);
+    moved[6] = BLISKORU_3M_IS_NO_MONTH;
+    memcpy(moved + to, row->bytes + from, row->length - from);
+    look_at_sheet(moved, moved_len, BLISKORU_YES, 0, row->numbers, row->text);
+    if (is_short)
+        look_at_moves(row->bytes, row->length, moved, moved_len, row->text);
+    else
+        look_at_moves(moved, moved_len, row->bytes, row->length, row->text);
+    free(moved);
 }
 
 static void look_at_accepted(const struct row *row)
 {
     look_at_sheet(row->bytes, row->length, BLISKORU_YES, 0, row->numbers, row->text);
     look_there_and_back(row->bytes, row->length, row->text);
+    if (row->bytes[0] == BLISKORU_LONG_HEADER && row->bytes[6] != BLISKORU_3M_IS_NO_MONTH)
+        look_at_unmoved(row->bytes, row->length, BLISKORU_HEADER_FORM, 0, row->text);
+    else
+        look_at_moved_answers(row);
 }
 
 /* A file of the samples, which is shorter than the room for it. */
@@ -678,6 +742,40 @@ static void look_at_longest_lines(void)
     free(sheet);
 }
 
+/* Behind a short header the longest sheet that is moved has 6 + 14 * 74,890 + 17 * 6 + 7 = 1,048,575 bytes, and so a byte more behind a long one. */
+static void look_at_longest_moves(void)
+{
+    size_t old_len, new_len;
+    uint8_t *old_sheet = nickel_of(SHORT, 74890, 6, &old_len), *new_sheet = nickel_of(BLISKORU_3M_IS_NO_MONTH, 74890, 6, &new_len);
+    expect(old_len == BLISKORU_LONGEST_SHEET - 1 && new_len == BLISKORU_LONGEST_SHEET, "the lengths of the sheets", "longest that is moved");
+    look_at_moves(old_sheet, old_len, new_sheet, new_len, "longest that is moved");
+    free(old_sheet);
+    free(new_sheet);
+    new_sheet = nickel_of(BLISKORU_3M_IS_M4, 74890, 6, &new_len);
+    look_at_unmoved(new_sheet, new_len, BLISKORU_HEADER_FORM, 0, "longest, and M4 is named");
+    free(new_sheet);
+}
+
+/* The longest sheet has a short header, and moved it would be a byte longer: 1 in any room. With a byte more it is no sheet either way. */
+static void look_at_too_long_to_move(void)
+{
+    const struct turned too_long = refused_at(BLISKORU_SHEET_TOO_LONG, 0);
+    size_t length;
+    uint8_t *sheet = nickel_of(SHORT, 74884, 11, &length);
+    expect(length == BLISKORU_LONGEST_SHEET, "the sheet's length", "too long to move");
+    look_at_rooms(bliskoru_to_new_header, sheet, length, too_long, "too long to move");
+    look_at_turning(bliskoru_to_new_header, sheet, length, too_long, length, "too long to move");
+    look_at_turning(bliskoru_to_new_header, sheet, length, too_long, length + 1, "too long to move");
+    look_at_rooms(bliskoru_to_old_header, sheet, length, refused_at(BLISKORU_HEADER_FORM, 0), "longest, and has a short header");
+    look_at_unmoved(sheet, length + 1, BLISKORU_SHEET_TOO_LONG, 0, "one byte longer than the longest");
+    free(sheet);
+    sheet = nickel_of(BLISKORU_3M_IS_NO_MONTH, 74884, 11, &length);
+    expect(length == BLISKORU_LONGEST_SHEET + 1, "the sheet's length", "one byte longer by a long header");
+    look_at_unmoved(sheet, length, BLISKORU_SHEET_TOO_LONG, 0, "one byte longer by a long header");
+    look_at_turning(bliskoru_to_old_header, sheet, length, too_long, length, "one byte longer by a long header");
+    free(sheet);
+}
+
 /* The reader of one field has no 1: it reads a field at byte 2,000,000 too. */
 static void look_far(void)
 {
@@ -700,6 +798,7 @@ int main(int argc, char **argv)
     each_row(folder, "hosts/edges/heads.txt", 50, look_at_head);
     each_row(folder, "hosts/edges/sheets.txt", 130, look_at_refused);
     each_row(folder, "hosts/edges/answers.txt", 50, look_at_accepted);
+    each_row(folder, "hosts/edges/moves.txt", 100, look_at_move);
     each_tape(folder, "hosts/edges/tapes.txt", 500);
     look_at_sample(folder, "nickel");
     look_at_sample(folder, "copper");
@@ -718,6 +817,8 @@ int main(int argc, char **argv)
     look_at_too_long_by_long_header();
     look_at_too_long_a_tape();
     look_at_longest_lines();
+    look_at_longest_moves();
+    look_at_too_long_to_move();
     look_far();
     printf("%lu edges, %lu failed\n", made, failed);
     return failed == 0 ? 0 : 1;

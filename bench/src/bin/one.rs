@@ -1,11 +1,11 @@
 //! Does one piece of work for one side over one sheet or text, once or so many
 //! times: what callgrind counts and perf samples. `one list library twap 65536`,
-//! `one to-sheet library trades 65536`; `one sheet twap 65536` writes the sheet,
-//! `one tape trades 65536` the text.
+//! `one to-sheet library trades 65536`, `one to-new plain trades 65536`; `one sheet
+//! twap 65536` writes the sheet, `one tape trades 65536` the text.
 
 use bench::sheets::{sheet, Kind};
 use bench::tapes;
-use bench::work::{Work, ALL, ON_TAPES};
+use bench::work::{Work, ALL, ON_MOVES, ON_TAPES};
 use std::io::{self, Write};
 
 /// Only what happens in here is counted.
@@ -32,11 +32,12 @@ fn write_tape(kind: &str, bytes: &str) -> Option<()> {
 
 /// The work of a name, and what it is done over.
 fn work_and_given(work: &str, kind: &str, bytes: &str) -> Option<(&'static Work, Vec<u8>)> {
-    if let Some(known) = ALL.iter().find(|known| known.name == work) {
-        return Some((known, sheet(Kind::named(kind)?, bytes.parse().ok()?)));
+    let is_named = |known: &&Work| known.name == work;
+    if let Some(known) = ON_TAPES.iter().find(is_named) {
+        return Some((known, (known.given)(&tape(kind, bytes)?)));
     }
-    let known = ON_TAPES.iter().find(|known| known.name == work)?;
-    Some((known, known.given(&tape(kind, bytes)?)))
+    let known = ALL.iter().chain(&ON_MOVES).find(is_named)?;
+    Some((known, (known.given)(&sheet(Kind::named(kind)?, bytes.parse().ok()?))))
 }
 
 fn do_work(work: &str, side: &str, kind: &str, bytes: &str, times: &str) -> Option<()> {

@@ -1,11 +1,12 @@
 //! The independent program's answers for a C program: judgement, six answers,
-//! list, one field, and a tape turned into a sheet and back, each TWAP by spans.
-//! The features plant a wrong rule.
+//! list, one field, a tape turned into a sheet and back, and a sheet moved to
+//! another header, each TWAP by spans. The features plant a wrong rule.
 
 mod planted;
 
 use independent::field::{read_field, Field};
 use independent::list::list_text;
+use independent::moves::to_new_header;
 use independent::tables::LIST_LIMIT;
 use independent::tape::sheet_to_tape;
 use independent::{Answer, Method, Refusal};
@@ -178,4 +179,40 @@ pub unsafe extern "C" fn second_sheet_to_tape(
 ) -> u8 {
     let out = unsafe { slice::from_raw_parts_mut(tape, room) };
     Lent { out, length, at }.tell(sheet_to_tape(unsafe { lent(sheet, len) }, room))
+}
+
+/// 0, the sheet with the new header and its length, or the refusal's number with
+/// its byte.
+///
+/// # Safety
+/// As for [`second_tape_to_sheet`].
+#[no_mangle]
+pub unsafe extern "C" fn second_to_new_header(
+    sheet: *const u8,
+    len: usize,
+    out: *mut u8,
+    room: usize,
+    length: &mut usize,
+    at: &mut usize,
+) -> u8 {
+    let out = unsafe { slice::from_raw_parts_mut(out, room) };
+    Lent { out, length, at }.tell(to_new_header(unsafe { lent(sheet, len) }, room))
+}
+
+/// 0, the sheet with the old header and its length, or the refusal's number with
+/// its byte.
+///
+/// # Safety
+/// As for [`second_tape_to_sheet`].
+#[no_mangle]
+pub unsafe extern "C" fn second_to_old_header(
+    sheet: *const u8,
+    len: usize,
+    out: *mut u8,
+    room: usize,
+    length: &mut usize,
+    at: &mut usize,
+) -> u8 {
+    let out = unsafe { slice::from_raw_parts_mut(out, room) };
+    Lent { out, length, at }.tell(planted::to_old_header(unsafe { lent(sheet, len) }, room))
 }

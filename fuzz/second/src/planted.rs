@@ -1,6 +1,7 @@
 //! The rules as they are, and with one of them wrong where a feature asks for it.
 
 use independent::field::{take_field, Field, Refusal};
+use independent::moves;
 use independent::pricing::price_day_by_spans;
 use independent::sheet::Record;
 use independent::tables::{metal_row, window_start, WINDOW};
@@ -58,6 +59,19 @@ pub fn tape_to_sheet(text: &[u8], room: usize) -> Result<Vec<u8>, Refusal> {
     }
     let text = String::from_utf8_lossy(text).replace(",-0.00", ",0.00");
     tape::tape_to_sheet(text.as_bytes(), room)
+}
+
+/// The sheet with the old header. Wrong under `named-back`: the third value 2 is
+/// moved as 0 is.
+pub fn to_old_header(sheet: &[u8], room: usize) -> Result<Vec<u8>, Refusal> {
+    if !cfg!(feature = "named-back") {
+        return moves::to_old_header(sheet, room);
+    }
+    let mut sheet = sheet.to_vec();
+    if judge_sheet(&sheet).is_ok_and(|day| day.third == Some(2)) {
+        sheet[6] = 0;
+    }
+    moves::to_old_header(&sheet, room)
 }
 
 /// The six answers. Wrong under `window-end`: a trade at start + 300,000 counts.

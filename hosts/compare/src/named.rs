@@ -1,10 +1,13 @@
-//! The named cases: the library's lists and answers, sheets of texts and texts of sheets beside those written by hand, and beside the
-//! independent program's.
+//! The named cases: the library's lists and answers, sheets of texts, texts of sheets and moved sheets beside those written by hand, and
+//! beside the independent program's.
 
+use crate::moves::{TO_NEW, TO_OLD};
 use crate::same;
-use crate::tapes::{look, Told, Turning, TO_SHEET, TO_TAPE};
+use crate::tapes::{look, TO_SHEET, TO_TAPE};
+use crate::turning::{Told, Turning};
 use bliskoru::CONTRACTS;
-use independent::named::tapes::{large_tapes, large_untapes, named_tapes, named_untapes, NamedTape};
+use independent::named::moves::named_moves;
+use independent::named::tapes::{large_tapes, large_untapes, named_tapes, named_untapes};
 use independent::named::{large_cases, named_cases, NamedCase};
 use independent::TAPE_LIMIT;
 
@@ -56,20 +59,33 @@ pub fn hold_tapes() -> Result<usize, String> {
     let sheets = [named_untapes(), large_untapes()].concat();
     let turned = texts.iter().map(|case| (case, &TO_SHEET));
     for (case, turning) in turned.chain(sheets.iter().map(|case| (case, &TO_TAPE))) {
-        turned_as_written(case, turning).map_err(|difference| format!("{}: {difference}", case.name))?;
+        turned_as_written(turning, &case.input, case.room, &case.expected)
+            .map_err(|difference| format!("{}: {difference}", case.name))?;
     }
     Ok(texts.len() + sheets.len())
 }
 
+/// Every named move, those of the longest sheets too; how many they are, or the first that differs.
+pub fn hold_moves() -> Result<usize, String> {
+    let cases = named_moves();
+    for case in &cases {
+        let turning = if case.to_new { TO_NEW } else { TO_OLD };
+        turned_as_written(&turning, &case.sheet, case.room, &case.told)
+            .and_then(|()| same::look(&case.sheet, 0, false).map(|_| ()))
+            .map_err(|difference| format!("{}: {difference}", case.name))?;
+    }
+    Ok(cases.len())
+}
+
 /// Turned by both as it is by hand in the room of the case, and alike in any other room.
-fn turned_as_written(case: &NamedTape, turning: &Turning) -> Result<(), String> {
+fn turned_as_written(turning: &Turning, input: &[u8], room: usize, by_hand: &Told) -> Result<(), String> {
     // the greatest room of a case is more than there is memory for, and none needs more than this
-    let told = turning.look_at_room(&case.input, case.room.min(TAPE_LIMIT))?;
-    if told != case.expected {
-        let [by_hand, told] = [&case.expected, &told].map(shown);
+    let told = turning.look_at_room(input, room.min(TAPE_LIMIT))?;
+    if told != *by_hand {
+        let [by_hand, told] = [by_hand, &told].map(shown);
         return Err(format!("by hand {by_hand}, both say {told}"));
     }
-    turning.look(&case.input).map(|_| ())
+    turning.look(input).map(|_| ())
 }
 
 fn shown(told: &Told) -> String {

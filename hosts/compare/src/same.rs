@@ -1,5 +1,6 @@
 //! One sheet, asked of both.
 
+use crate::moves::{self, Moves};
 use crate::tapes;
 use bliskoru::{Answer, Field, Method, LIST_ROOM};
 use independent::list::{closing_list, closing_list_by_spans};
@@ -9,11 +10,12 @@ use independent::tables::{metal_row, window_start};
 use independent::{judge_sheet, Day, Refusal};
 use std::fmt::Debug;
 
-/// What both say of an accepted sheet, and whether a quote that rests from before a window decides one of the answers.
+/// What both say of an accepted sheet and of its moves, and whether a quote that rests from before a window decides one of the answers.
 #[derive(Clone, Copy)]
 pub struct Accepted {
     pub metal: u8,
     pub answers: [Answer; 6],
+    pub moves: Moves,
     pub resting: bool,
 }
 
@@ -40,30 +42,38 @@ pub fn same<T: PartialEq + Debug>(what: &str, library: &T, independent: &T) -> R
     Err(format!("{what}: the library says {library:?}, the independent program {independent:?}"))
 }
 
+/// A refusal of the library in the independent program's form.
+pub fn in_numbers(no: bliskoru::Refusal) -> Refusal {
+    (no.reason.number(), no.byte)
+}
+
 /// What both say of a sheet, or where they differ.
 pub fn look(sheet: &[u8], item: u64, walked: bool) -> Result<Told, String> {
     let judged = judge_sheet(sheet);
-    let told = told(&judged, if walked { price_day } else { price_day_by_spans });
-    let refusal = |no: bliskoru::Refusal| (no.reason.number(), no.byte);
-    same("judgement", &bliskoru::judge(sheet).map_err(refusal), &told.map(|_| ()))?;
-    same("answers", &bliskoru::answers(sheet).map_err(refusal), &told.map(|accepted| accepted.answers))?;
+    let judgement = judged.as_ref().map(|_| ()).map_err(|no| *no);
+    let price = if walked { price_day } else { price_day_by_spans };
+    let answers = judged.as_ref().map(|day| answers_of(day, price)).map_err(|no| *no);
+    same("judgement", &bliskoru::judge(sheet).map_err(in_numbers), &judgement)?;
+    same("answers", &bliskoru::answers(sheet).map_err(in_numbers), &answers)?;
     look_at_list(sheet, walked)?;
     let text = tapes::look_at_sheet(sheet)?;
-    same("judgement by the text", &text.map(|_| ()), &told.map(|_| ()))?;
+    same("judgement by the text", &text.map(|_| ()), &judgement)?;
+    let moves = moves::look(sheet, &answers)?;
     if sheet.len() <= LONGEST_READ {
         look_at_fields(sheet, item)?;
     }
-    Ok(told)
+    let accepted = |day: Day, answers| Accepted {
+        metal: day.metal,
+        answers,
+        moves,
+        resting: is_decided_by_resting(&day),
+    };
+    Ok(judged.and_then(|day| Ok(accepted(day, answers?))))
 }
 
-fn told(judged: &Result<Day, Refusal>, price: fn(&Day) -> [independent::Answer; 6]) -> Told {
-    match judged {
-        Ok(day) => {
-            let answers = price(day).map(|answer| in_the_librarys_words(&answer));
-            Ok(Accepted { metal: day.metal, answers, resting: is_decided_by_resting(day) })
-        }
-        Err(refusal) => Err(*refusal),
-    }
+/// The independent program's answers in the library's words.
+pub fn answers_of(day: &Day, price: fn(&Day) -> [independent::Answer; 6]) -> [Answer; 6] {
+    price(day).map(|answer| in_the_librarys_words(&answer))
 }
 
 /// Are the answers others without the quotes that came before the windows of their instruments?

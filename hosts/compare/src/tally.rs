@@ -1,5 +1,6 @@
 //! What was among the sheets.
 
+use crate::moves::Moves;
 use crate::same::Told;
 use bliskoru::{Answer, Method};
 
@@ -22,6 +23,10 @@ const SIZE_NAMES: [&str; 5] = ["to 1,000", "to 65,536", "to 1,048,575", "1,048,5
 /// What a contract's answer was.
 const ANSWERS: [&str; 5] = ["VWAP", "TWAP", "13", "14", "15"];
 
+/// What the two moves of accepted sheets gave: a sheet, or 19.
+const MOVES: [&str; 4] =
+    ["to the long header", "to the short header", "19 to the long header", "19 to the short header"];
+
 #[derive(Default)]
 pub struct Tally {
     sheets: u64,
@@ -35,6 +40,10 @@ pub struct Tally {
     taken: u64,
     /// Accepted sheets on which a quote from before a window decides an answer.
     resting: u64,
+    /// Moves of accepted sheets by what they gave.
+    moves: [u64; 4],
+    /// Accepted sheets that a move would have made too long. They are rare, and among the named moves.
+    longer: u64,
     /// Refused sheets by number.
     refused: [u64; 13],
     /// Contracts of accepted sheets by answer.
@@ -96,9 +105,16 @@ impl Tally {
                 for answer in &accepted.answers {
                     self.answers[place_of(answer)] += 1;
                 }
+                self.count_moves(accepted.moves);
             }
             Err((number, _)) => self.refused[place_of_number(*number)] += 1,
         }
+    }
+
+    fn count_moves(&mut self, Moves { to_new, to_old }: Moves) {
+        let given = [to_new == 0, to_old == 0, to_new == 19, to_old == 19];
+        add_to(&mut self.moves, &given.map(u64::from));
+        self.longer += u64::from(to_new == 1);
     }
 
     pub fn add(&mut self, other: &Tally) {
@@ -107,29 +123,32 @@ impl Tally {
         self.bytes += other.bytes;
         self.taken += other.taken;
         self.resting += other.resting;
+        self.longer += other.longer;
         add_to(&mut self.metals, &other.metals);
         add_to(&mut self.headers, &other.headers);
+        add_to(&mut self.moves, &other.moves);
         add_to(&mut self.refused, &other.refused);
         add_to(&mut self.answers, &other.answers);
         add_to(&mut self.sizes, &other.sizes);
     }
 
-    /// Every metal, header, number, answer and size must have been among them, a contract that took the close of 3M, and a resting quote.
+    /// Every metal, header, move, number, answer and size must have been among them, a contract that took the close of 3M, and a resting
+    /// quote.
     pub fn has_everything(&self) -> Result<(), String> {
         let single = [self.taken, self.resting];
-        let rows: [&[u64]; 6] =
-            [&self.metals, &self.headers, &self.refused, &self.answers, &self.sizes, &single];
+        let rows: [&[u64]; 7] =
+            [&self.metals, &self.headers, &self.moves, &self.refused, &self.answers, &self.sizes, &single];
         if rows.iter().all(|row| row.iter().all(|count| *count > 0)) {
             return Ok(());
         }
-        Err("a metal, a header, a number, an answer, a size, a close of 3M that is taken or a resting quote was not among the sheets".to_string())
+        Err("a metal, a header, a move, a number, an answer, a size, a close of 3M that is taken or a resting quote was not among the sheets".to_string())
     }
 
     /// All of it in one line.
     pub fn line(&self) -> String {
         let accepted: u64 = self.metals.iter().sum();
         format!(
-            "{} sheets of {} bytes, no difference; accepted {accepted} ({}; {}), each as text and back, {} of them walked, {} with a contract that took the close of 3M, {} decided by a resting quote; refused by {}; contracts {}; bytes {}",
+            "{} sheets of {} bytes, no difference; accepted {accepted} ({}; {}), each as text and back, {} of them walked, {} with a contract that took the close of 3M, {} decided by a resting quote; moved and back, or refused: {}, 1 for the longer sheet {}; refused by {}; contracts {}; bytes {}",
             self.sheets,
             self.bytes,
             named(&METALS, &self.metals),
@@ -137,6 +156,8 @@ impl Tally {
             self.walked,
             self.taken,
             self.resting,
+            named(&MOVES, &self.moves),
+            self.longer,
             named(&NUMBERS, &self.refused),
             named(&ANSWERS, &self.answers),
             named(&SIZE_NAMES, &self.sizes),

@@ -1,7 +1,8 @@
 //! What was among the texts.
 
 use crate::tally::{add_to, header_of, named, HEADERS};
-use crate::tapes::{kind_of, Told, KINDS};
+use crate::tapes::{kind_of, KINDS};
+use crate::turning::Told;
 
 /// The numbers that a text can earn.
 const NUMBERS: [u8; 9] = [1, 5, 6, 8, 9, 10, 11, 17, 18];

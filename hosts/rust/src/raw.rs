@@ -2,7 +2,7 @@
 //!
 //! # Safety
 //!
-//! The same holds for all twelve. A pointer and the length behind it are a slice, and every other pointer is a reference: none is null,
+//! The same holds for all fourteen. A pointer and the length behind it are a slice, and every other pointer is a reference: none is null,
 //! even where the length is 0; each is aligned and holds for the whole call; what a `*mut` points to overlaps with nothing else that
 //! is lent to the same call. `answers` points to 18 numbers and `values` to 6.
 
@@ -111,6 +111,28 @@ extern "C" {
         sheet_len: usize,
         tape: *mut u8,
         tape_len: usize,
+        length: *mut usize,
+        at: *mut usize,
+    ) -> u8;
+
+    /// 0, the sheet with a long header and its `length`; or 1 to 12, 18 with the byte in `at`, then 19, 1, 16 with 0 there, and nothing else
+    /// is written.
+    pub fn bliskoru_to_new_header(
+        sheet: *const u8,
+        sheet_len: usize,
+        out: *mut u8,
+        out_len: usize,
+        length: *mut usize,
+        at: *mut usize,
+    ) -> u8;
+
+    /// 0, the sheet with a short header and its `length`; or 1 to 12, 18 with the byte in `at`, then 19, 16 with 0 there, and nothing else
+    /// is written.
+    pub fn bliskoru_to_old_header(
+        sheet: *const u8,
+        sheet_len: usize,
+        out: *mut u8,
+        out_len: usize,
         length: *mut usize,
         at: *mut usize,
     ) -> u8;

@@ -7,7 +7,7 @@ use std::fmt;
 #[derive(Clone, Copy, Debug, PartialEq, Eq, PartialOrd, Ord, Hash)]
 #[repr(u8)]
 pub enum Reason {
-    /// The sheet, or the one that a tape would give, has more than 1,048,576 bytes.
+    /// The sheet, or the one that a tape or a move would give, has more than 1,048,576 bytes.
     SheetTooLong = 1,
     /// Bytes of a field are missing, or the end field is.
     BytesMissing = 2,
@@ -43,10 +43,12 @@ pub enum Reason {
     Line = 17,
     /// The header's third value bars the instrument, in a whole sheet or a tape.
     Barred = 18,
+    /// The sheet has the wanted header already or, going back to the short one, its third value names M3 or M4.
+    HeaderForm = 19,
 }
 
 /// Every reason, number 1 first.
-const REASONS: [Reason; 18] = [
+const REASONS: [Reason; 19] = [
     Reason::SheetTooLong,
     Reason::BytesMissing,
     Reason::Tag,
@@ -65,6 +67,7 @@ const REASONS: [Reason; 18] = [
     Reason::DoesNotFit,
     Reason::Line,
     Reason::Barred,
+    Reason::HeaderForm,
 ];
 
 impl Reason {
@@ -73,7 +76,7 @@ impl Reason {
         self as u8
     }
 
-    /// The reason of a number, none where it is not 1 to 18.
+    /// The reason of a number, none where it is not 1 to 19.
     pub fn from_number(number: u8) -> Option<Reason> {
         REASONS.get(usize::from(number).checked_sub(1)?).copied()
     }
@@ -110,6 +113,7 @@ impl Reason {
             Reason::DoesNotFit => "there is no room for the field at that place, or for the sheet or text",
             Reason::Line => "the line is malformed, or names what there is not",
             Reason::Barred => "the header's third value bars the instrument",
+            Reason::HeaderForm => "the sheet has the wanted header already, or its header names M3 or M4",
         }
     }
 }
@@ -125,10 +129,11 @@ impl Error for Reason {}
 /// A sheet that is refused: why, and the byte at which the field starts that earned it.
 #[derive(Clone, Copy, Debug, PartialEq, Eq, Hash)]
 pub struct Refusal {
-    /// Why: [`Reason::SheetTooLong`] to [`Reason::EndCount`], [`Reason::Barred`], and [`Reason::DoesNotFit`] where its text has no room.
+    /// Why: [`Reason::SheetTooLong`] to [`Reason::EndCount`] or [`Reason::Barred`]. Of a sheet that is to be moved also
+    /// [`Reason::HeaderForm`], and [`Reason::SheetTooLong`] for the moved one; [`Reason::DoesNotFit`] where that or the text has no room.
     pub reason: Reason,
-    /// The byte, counted from 0: where the field starts; 0 for a sheet that is too long, or has no room for its text; the sheet's length
-    /// where the end is missing.
+    /// The byte, counted from 0: where the field starts; the sheet's length where the end is missing; 0 where it is no field that earned
+    /// it: for a length, the header's form or the room.
     pub byte: usize,
 }
 

@@ -3,7 +3,7 @@
 mod common;
 
 use bliskoru::raw;
-use common::{file, filled, longer, rows, tape_rows, Row, FILL, FILLED, GUARD};
+use common::{file, filled, longer, moves, pair_of, rows, tape_rows, Pair, Row, FILL, FILLED, GUARD};
 use common::{long_nickel_of, long_nickel_tape_of, nickel_of, nickel_tape_of};
 
 /// All that a call may write but buffers, between guards.
@@ -142,7 +142,7 @@ fn look_at_write(row: &Row, length: usize, at: usize) {
     assert!(buffer == behind, "the buffer of {length} {at} {}", row.text);
 }
 
-/// One of the two functions that turn a tape into a sheet and a sheet into a tape.
+/// One of the four functions that make a sheet or a tape of another.
 type Turning = unsafe extern "C" fn(*const u8, usize, *mut u8, usize, *mut usize, *mut usize) -> u8;
 
 /// Turning into a buffer of `room` bytes: the refusal, else 16 at place 0 where it does not fit, else the bytes at its start and no other.
@@ -167,10 +167,10 @@ fn look_at_turning(turn: Turning, bytes: &[u8], told: Result<&[u8], (u8, usize)>
     assert!(buffer == behind, "the buffer of {room} {text}");
 }
 
-/// Room that is ample, exact, one byte too little, and none.
+/// Room that is ample, one byte more, exact, one byte too little, and none.
 fn look_at_rooms(turn: Turning, bytes: &[u8], told: Result<&[u8], (u8, usize)>, text: &str) {
     let length = told.map_or(0, <[u8]>::len);
-    for room in [length + 100, length, length.saturating_sub(1), 0] {
+    for room in [length + 100, length + 1, length, length.saturating_sub(1), 0] {
         look_at_turning(turn, bytes, told, room, text);
     }
 }
@@ -179,6 +179,79 @@ fn look_at_rooms(turn: Turning, bytes: &[u8], told: Result<&[u8], (u8, usize)>, 
 fn look_at_pair(tape: &[u8], sheet: &[u8], text: &str) {
     look_at_rooms(raw::bliskoru_tape_to_sheet, tape, Ok(sheet), text);
     look_at_rooms(raw::bliskoru_sheet_to_tape, sheet, Ok(tape), text);
+}
+
+/// A sheet that neither move takes, for one and the same reason.
+fn look_at_unmoved(sheet: &[u8], refusal: (u8, usize), text: &str) {
+    look_at_rooms(raw::bliskoru_to_new_header, sheet, Err(refusal), text);
+    look_at_rooms(raw::bliskoru_to_old_header, sheet, Err(refusal), text);
+}
+
+/// Each sheet of a pair moved to the other, and none to the header that it has.
+fn look_at_moves(pair: &Pair, text: &str) {
+    look_at_rooms(raw::bliskoru_to_new_header, &pair.old, Ok(&pair.new), text);
+    look_at_rooms(raw::bliskoru_to_old_header, &pair.new, Ok(&pair.old), text);
+    look_at_rooms(raw::bliskoru_to_new_header, &pair.new, Err((19, 0)), text);
+    look_at_rooms(raw::bliskoru_to_old_header, &pair.old, Err((19, 0)), text);
+}
+
+/// Each line of the table in its own room; one that is refused but for room is so in every room.
+#[test]
+fn sheets_are_moved_to_the_other_header_or_refused() {
+    for row in moves() {
+        let function = if row.to_new { raw::bliskoru_to_new_header } else { raw::bliskoru_to_old_header };
+        let told = row.told.as_deref().map_err(|no| *no);
+        look_at_turning(function, &row.sheet, told, row.room, &row.text);
+        if told != Err((16, 0)) {
+            look_at_rooms(function, &row.sheet, told, &row.text);
+        }
+    }
+}
+
+#[test]
+fn refused_sheets_are_moved_to_no_header() {
+    for row in rows("sheets", 130) {
+        look_at_unmoved(&row.bytes, (row.number(), row.numbers[1] as usize), &row.text);
+    }
+}
+
+#[test]
+fn accepted_sheets_have_the_same_answers_with_the_other_header() {
+    for row in rows("answers", 50) {
+        let Some(pair) = pair_of(&row.bytes) else {
+            look_at_unmoved(&row.bytes, (19, 0), &row.text);
+            continue;
+        };
+        let answers = std::array::from_fn(|k| row.numbers[k] as u64);
+        look_at_sheet(&pair.old, 0, 0, Some(answers), &row.text);
+        look_at_sheet(&pair.new, 0, 0, Some(answers), &row.text);
+        look_at_moves(&pair, &row.text);
+    }
+}
+
+/// Behind a short header 6 + 14 * 74,890 + 17 * 6 + 7 = 1,048,575, and a byte more behind a long one.
+#[test]
+fn the_longest_sheet_that_is_moved_has_a_byte_to_spare() {
+    let pair = Pair { old: nickel_of(74_890, 6), new: long_nickel_of(0, 74_890, 6) };
+    assert_eq!((pair.old.len(), pair.new.len()), (1_048_575, 1_048_576));
+    look_at_moves(&pair, "longest that is moved");
+    look_at_unmoved(&long_nickel_of(2, 74_890, 6), (19, 0), "longest, and M4 is named");
+}
+
+/// The longest sheet has a short header, and moved it would be a byte longer: 1 in any room. With a byte more it is no sheet either way.
+#[test]
+fn the_longest_sheet_is_not_moved_to_a_longer_one() {
+    let turn = raw::bliskoru_to_new_header;
+    let sheet = nickel_of(74_884, 11);
+    for room in [0, 1, 1_048_575, 1_048_576, 1_048_577] {
+        look_at_turning(turn, &sheet, Err((1, 0)), room, "too long to move");
+    }
+    look_at_rooms(raw::bliskoru_to_old_header, &sheet, Err((19, 0)), "longest, and has a short header");
+    look_at_unmoved(&longer(&sheet), (1, 0), "one byte longer");
+    let sheet = long_nickel_of(0, 74_884, 11);
+    assert_eq!(sheet.len(), 1_048_577);
+    look_at_unmoved(&sheet, (1, 0), "one byte longer by a long header");
+    look_at_turning(raw::bliskoru_to_old_header, &sheet, Err((1, 0)), 1_048_577, "one byte longer");
 }
 
 #[test]

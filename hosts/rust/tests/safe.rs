@@ -4,8 +4,11 @@ mod common;
 
 use bliskoru::{answers, judge, list, list_into, read_field, write_field};
 use bliskoru::{sheet_to_tape, sheet_to_tape_into, tape_to_sheet, tape_to_sheet_into};
+use bliskoru::{to_new_header, to_new_header_into, to_old_header, to_old_header_into};
 use bliskoru::{Answer, Field, Method, Reason, Refusal, TapeRefusal, BID, CONTRACTS, LONGEST_TAPE, OFFER};
-use common::{file, filled, longer, nickel_of, nickel_tape_of, rows, tape_rows, Row};
+use common::{
+    file, filled, long_nickel_of, longer, moves, nickel_of, nickel_tape_of, pair_of, rows, tape_rows, Row,
+};
 use std::error::Error;
 use std::thread;
 
@@ -78,6 +81,8 @@ fn refused_sheets_have_their_reason_and_byte() {
         assert_eq!(judge(&row.bytes), Err(refusal), "{}", row.text);
         assert_eq!(answers(&row.bytes), Err(refusal), "{}", row.text);
         assert_eq!(sheet_to_tape(&row.bytes), Err(refusal), "{}", row.text);
+        assert_eq!(to_new_header(&row.bytes), Err(refusal), "{}", row.text);
+        assert_eq!(to_old_header(&row.bytes), Err(refusal), "{}", row.text);
         assert_eq!(list(&row.bytes), format!("refused {} {}\n", row.number(), refusal.byte), "{}", row.text);
     }
 }
@@ -135,6 +140,52 @@ fn the_longest_tapes_have_room() {
     assert_eq!(tape_to_sheet(quotes.as_bytes()).map(|sheet| sheet.len()), Ok(17_013));
     let long = TapeRefusal { reason: Reason::SheetTooLong, line: 0 };
     assert_eq!(tape_to_sheet(&nickel_tape_of(74_895, 2)), Err(long));
+}
+
+/// In the row's room, and in room of their own, in which a move that is refused for room is not.
+#[test]
+fn moves_have_their_sheets_or_their_reason_and_byte() {
+    for row in moves() {
+        let moved = if row.to_new { to_new_header } else { to_old_header };
+        let moved_into = if row.to_new { to_new_header_into } else { to_old_header_into };
+        let wanted = row.told.map_err(|(number, byte)| Refusal { reason: reason(number), byte });
+        let mut room = vec![7; row.room];
+        let mut behind = room.clone();
+        if let Ok(sheet) = &wanted {
+            behind[..sheet.len()].copy_from_slice(sheet);
+        }
+        let length = wanted.as_ref().map(Vec::len).map_err(|no| *no);
+        assert_eq!(moved_into(&row.sheet, &mut room), length, "{}", row.text);
+        assert!(room == behind, "{}", row.text);
+        match wanted {
+            Err(no) if no.reason == Reason::DoesNotFit => assert!(moved(&row.sheet).is_ok(), "{}", row.text),
+            wanted => assert_eq!(moved(&row.sheet), wanted, "{}", row.text),
+        }
+    }
+}
+
+#[test]
+fn moved_sheets_have_the_same_answers() {
+    let form = Refusal { reason: Reason::HeaderForm, byte: 0 };
+    for row in rows("answers", 50) {
+        let Some(pair) = pair_of(&row.bytes) else {
+            assert_eq!(to_new_header(&row.bytes), Err(form), "{}", row.text);
+            assert_eq!(to_old_header(&row.bytes), Err(form), "{}", row.text);
+            continue;
+        };
+        assert_eq!(to_new_header(&pair.old).as_ref(), Ok(&pair.new), "{}", row.text);
+        assert_eq!(to_old_header(&pair.new).as_ref(), Ok(&pair.old), "{}", row.text);
+        assert_eq!(answers(&pair.new), answers(&pair.old), "{}", row.text);
+    }
+}
+
+#[test]
+fn the_longest_sheets_are_moved_in_room_of_their_own() {
+    let (old, new) = (nickel_of(74_890, 6), long_nickel_of(0, 74_890, 6));
+    assert!(to_new_header(&old).as_ref() == Ok(&new) && to_old_header(&new).as_ref() == Ok(&old));
+    let long = Refusal { reason: Reason::SheetTooLong, byte: 0 };
+    assert_eq!(to_new_header(&nickel_of(74_884, 11)), Err(long));
+    assert_eq!(to_old_header(&long_nickel_of(0, 74_884, 11)), Err(long));
 }
 
 #[test]
@@ -210,6 +261,10 @@ fn no_bytes_at_all_are_lent_without_a_null_pointer() {
     assert_eq!(list_into(&[], &mut []), None);
     assert_eq!(sheet_to_tape(&[]), Err(missing));
     assert_eq!(sheet_to_tape_into(&[], &mut []), Err(missing));
+    assert_eq!(to_new_header(&[]), Err(missing));
+    assert_eq!(to_new_header_into(&[], &mut []), Err(missing));
+    assert_eq!(to_old_header(&[]), Err(missing));
+    assert_eq!(to_old_header_into(&[], &mut []), Err(missing));
     let no_line = TapeRefusal { reason: Reason::OutOfPlace, line: 1 };
     assert_eq!(tape_to_sheet(&[]), Err(no_line));
     assert_eq!(tape_to_sheet_into(&[], &mut []), Err(no_line));
@@ -239,11 +294,11 @@ fn threads_may_ask_at_once_of_one_sheet() {
 
 #[test]
 fn reasons_are_the_sheets_numbers_and_have_words() {
-    for number in 1..=18 {
+    for number in 1..=19 {
         assert_eq!(reason(number).number(), number);
         assert!(reason(number).to_string().ends_with(&format!(" ({number})")));
     }
-    assert_eq!((Reason::from_number(0), Reason::from_number(19)), (None, None));
+    assert_eq!((Reason::from_number(0), Reason::from_number(20)), (None, None));
     let refusal = judge(&[9, 0, 0]).expect_err("no tag");
     assert_eq!(refusal.to_string(), "refused at byte 0: the tag is not 1 to 6 (3)");
     assert_eq!(refusal.source().map(ToString::to_string), Some(Reason::Tag.to_string()));

@@ -12,10 +12,11 @@ pub const FILLED: usize = usize::from_ne_bytes([FILL; 8]);
 /// Bytes before and behind each lent buffer.
 pub const GUARD: usize = 32;
 
-/// A line of a table: numbers, then bytes.
+/// A line of a table: numbers, then bytes, in the table of moves the moved bytes behind them.
 pub struct Row {
     pub numbers: Vec<i128>,
     pub bytes: Vec<u8>,
+    pub moved: Vec<u8>,
     pub text: String,
 }
 
@@ -40,8 +41,9 @@ fn bytes_of(text: &str) -> Vec<u8> {
 fn row_of(line: &str) -> Option<Row> {
     let said = line.split('#').next()?;
     let (numbers, bytes) = said.split_once(':')?;
+    let (bytes, moved) = bytes.split_once(':').unwrap_or((bytes, ""));
     let numbers = numbers.split_whitespace().map(|number| number.parse().expect("a number")).collect();
-    Some(Row { numbers, bytes: bytes_of(bytes), text: line.to_string() })
+    Some(Row { numbers, bytes: bytes_of(bytes), moved: bytes_of(moved), text: line.to_string() })
 }
 
 /// The lines of a table, which has `least` lines or more.
@@ -50,6 +52,45 @@ pub fn rows(table: &str, least: usize) -> Vec<Row> {
     let rows: Vec<Row> = text.lines().filter_map(row_of).collect();
     assert!(rows.len() >= least, "{table} has {} lines", rows.len());
     rows
+}
+
+/// A line of the table of moves: to the long header or to the short one, in so much room, the sheet and what it is moved to or its refusal.
+pub struct Move {
+    pub to_new: bool,
+    pub room: usize,
+    pub sheet: Vec<u8>,
+    pub told: Result<Vec<u8>, (u8, usize)>,
+    pub text: String,
+}
+
+fn move_of(row: Row) -> Move {
+    let [tag, room, number, byte] = row.numbers[..] else {
+        panic!("four numbers: {}", row.text);
+    };
+    let told = if number == 0 { Ok(row.moved) } else { Err((number as u8, byte as usize)) };
+    Move { to_new: tag == 6, room: room as usize, sheet: row.bytes, told, text: row.text }
+}
+
+/// The lines of the table of moves, which has 100 lines or more.
+pub fn moves() -> Vec<Move> {
+    rows("moves", 100).into_iter().map(move_of).collect()
+}
+
+/// An accepted sheet with a short header, and the same with a long one.
+pub struct Pair {
+    pub old: Vec<u8>,
+    pub new: Vec<u8>,
+}
+
+/// The pair that an accepted sheet is one of; none where its header names M3 or M4.
+pub fn pair_of(sheet: &[u8]) -> Option<Pair> {
+    let values = &sheet[3..6];
+    let (behind, third) = if sheet[0] == 1 { (&sheet[6..], 0) } else { (&sheet[7..], sheet[6]) };
+    let pair = || Pair {
+        old: [&[1, 0, 3], values, behind].concat(),
+        new: [&[6, 0, 4], values, &[0], behind].concat(),
+    };
+    (third == 0).then(pair)
 }
 
 /// A line of the table of tapes: number and line of a refusal, or zeros; the text; where it is accepted, its sheet.
