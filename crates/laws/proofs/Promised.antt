@@ -43,15 +43,15 @@ pub record Closes (s : List ℕ) (x : Closed) : Type 0 where
   pub holds : now sheet ≡ s
 
 -- the answer is the definition's
-says : {s : List ℕ} {x : Closed} → Closes s x → closedSays x ≡ answersOf s
+pub says : {s : List ℕ} {x : Closed} → Closes s x → closedSays x ≡ answersOf s
 says {s} c = c .permits ∙ ap answersOf (c .holds)
 
 -- ---- six answers are those of an accepted sheet
 
-six-day : (day other : Day) (ts us : List Told) → six day ts ≡ six other us → day ≡ other
+pub six-day : (day other : Day) (ts us : List Told) → six day ts ≡ six other us → day ≡ other
 six-day day other ts us e = cc
 
-six-answers : (day other : Day) (ts us : List Told) → six day ts ≡ six other us → ts ≡ us
+pub six-answers : (day other : Day) (ts us : List Told) → six day ts ≡ six other us → ts ≡ us
 six-answers day other ts us e = cc
 
 accepted : (s : List ℕ) (day : Day) (ts : List Told) → answersOf s ≡ six day ts → judgeSheet s ≡ accepts day
