@@ -10,6 +10,7 @@ ghost use Rattle.header_mover.specs.Moving.{movedBytes, movable, movedOf
 ghost use Rattle.header_mover.specs.laws.Moving.{headerSize, moveNumber, Accepted, Fitting};
 use field::Field;
 use field::Form;
+use field::judge::also;
 use field::judge::third_of;
 use field::judge::unless;
 use field::layout::form_tag;
@@ -43,9 +44,10 @@ fn header_size(form: Form) -> usize
 fn move_number(movable: bool, len: usize, room: usize) -> u8
     ensures { λ r. ⌜ r ≡ moveNumber movable len room ⌝ }
 {
+    let form = unless(movable, number::FORM, number::FINE);
+    let limit = unless(len <= 1_048_576, number::LONG, number::FINE);
     let fits = unless(len <= room, number::ROOM, number::FINE);
-    let short = unless(len <= 1_048_576, number::LONG, fits);
-    unless(movable, number::FORM, short)
+    also(form, also(limit, fits))
 }
 
 // A header of a form, which goes by value: the byte that a short one lacks is then a zero and not what the stack had.

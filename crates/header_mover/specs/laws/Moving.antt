@@ -20,7 +20,7 @@ use Rattle.field.specs.declared.Form.{Form}
 use Rattle.field.specs.declared.Form.the-variants.{Short, Long}
 use Rattle.field.specs.declared.Field.{Field}
 use Rattle.field.specs.declared.Field.the-variants.{Header, PreviousClose, Trade, Quote, End}
-use Rattle.field.specs.Judging.{fine, unless, both, thirdOf}
+use Rattle.field.specs.Judging.{fine, unless, also, both, thirdOf}
 use Rattle.field.specs.Layout.{formTag, tagOf, sizeOf, fieldBytes}
 use Rattle.field.specs.Writing.{fieldSize}
 use Rattle.field.specs.laws.Field.{field-length}
@@ -164,26 +164,28 @@ module _ (wanted form : Form) {a b : ℕ} (e : a ≡ formTag form) (f : b ≡ fo
 
 -- the numbers of a move in their order
 abbrev pub moveNumber : Bool → ℕ → ℕ → ℕ
-moveNumber can len room = unless can 19 (unless (leb len 1048576) 1 (unless (leb len room) 16 fine))
+moveNumber can len room = also (unless can 19 fine) (also (unless (leb len 1048576) 1 fine) (unless (leb len room) 16 fine))
 
 -- made where no number is found, and else refused with it
 move-settled : (can : Bool) (t : List ℕ) (room : ℕ) → inRoom room (cond can (withinLimit t) (refused 19 0)) ≡ cond (eqb (moveNumber can (length t) room) fine) (made t) (refused (moveNumber can (length t) room) 0)
-unfolding inRoom unless
+unfolding inRoom unless also
 move-settled false t room = refl
 move-settled true t room = by-limit (leb (length t) 1048576) (leb (length t) room) refl
   where
-    by-limit : (small fits : Bool) → leb (length t) room ≡ fits
-        → inRoom room (cond small (made t) (refused 1 0)) ≡ cond (eqb (cond small (cond (leb (length t) room) fine 16) 1) fine) (made t) (refused (cond small (cond (leb (length t) room) fine 16) 1) 0)
+    numberBy : Bool → ℕ
+    numberBy small = also (unless true 19 fine) (also (unless small 1 fine) (unless (leb (length t) room) 16 fine))
+
+    by-limit : (small fits : Bool) → leb (length t) room ≡ fits → inRoom room (cond small (made t) (refused 1 0)) ≡ cond (eqb (numberBy small) fine) (made t) (refused (numberBy small) 0)
     by-limit false fits e = refl
     by-limit true true e = rw e refl
     by-limit true false e = rw e refl
 
 -- no number is found only where there is room
 move-fits : (can : Bool) (len room : ℕ) → moveNumber can len room ≡ fine → len ≤ room
-unfolding unless
+unfolding unless also
 move-fits can len room e = by can (leb len 1048576) (leb len room) refl e
   where
-    by : (can small fits : Bool) → leb len room ≡ fits → unless can 19 (unless small 1 (unless fits 16 fine)) ≡ fine → len ≤ room
+    by : (can small fits : Bool) → leb len room ≡ fits → also (unless can 19 fine) (also (unless small 1 fine) (unless fits 16 fine)) ≡ fine → len ≤ room
     by false small fits g h = absurd (omega (arith, h))
     by true false fits g h = absurd (omega (arith, h))
     by true true false g h = absurd (omega (arith, h))
