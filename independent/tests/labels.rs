@@ -1,6 +1,7 @@
 //! Every label that a case has in front of it has a row in docs/CASES.md, and
 //! the row says where the case runs.
 
+use independent::named::moves::named_moves;
 use independent::named::tapes::{large_tapes, large_untapes, named_tapes, named_untapes};
 use independent::named::{large_cases, named_cases, NamedCase};
 use std::collections::{HashMap, HashSet};
@@ -26,7 +27,7 @@ fn rows() -> HashMap<String, Vec<String>> {
 
 /// Is this a label: a letter of the page and a number, or F-8?
 fn is_label(word: &str) -> bool {
-    let number = word.strip_prefix(['A', 'B', 'C', 'D', 'E', 'F', 'G', 'H', 'I', 'P', 'R']);
+    let number = word.strip_prefix(['A', 'B', 'C', 'D', 'E', 'F', 'G', 'H', 'I', 'J', 'P', 'R']);
     let number = number.map(|number| number.strip_prefix('-').unwrap_or(number));
     number.is_some_and(|number| !number.is_empty() && number.bytes().all(|byte| byte.is_ascii_digit()))
 }
@@ -63,13 +64,17 @@ fn labels_of_names(cases: &[NamedCase]) -> HashSet<String> {
     cases.iter().flat_map(|case| labels_in(&case.name)).collect()
 }
 
+fn labels_of_moves() -> HashSet<String> {
+    named_moves().iter().flat_map(|case| labels_in(&case.name)).collect()
+}
+
 fn labels_of_tapes() -> HashSet<String> {
     let cases = [named_tapes(), named_untapes(), large_tapes(), large_untapes()];
     cases.iter().flatten().flat_map(|case| labels_in(&case.name)).collect()
 }
 
 fn labels_of_edges() -> HashSet<String> {
-    let tables = ["answers", "fields", "heads", "sheets"];
+    let tables = ["answers", "fields", "heads", "moves", "sheets"];
     tables.iter().flat_map(|table| comments(&format!("hosts/edges/{table}.txt"))).collect()
 }
 
@@ -84,7 +89,7 @@ fn labels_of_tests() -> HashSet<String> {
 }
 
 /// Where labels occur, and which.
-fn occurring() -> [(&'static str, HashSet<String>); 7] {
+fn occurring() -> [(&'static str, HashSet<String>); 8] {
     [
         ("cases", labels_of_names(&named_cases())),
         ("compare", labels_of_names(&large_cases())),
@@ -92,6 +97,7 @@ fn occurring() -> [(&'static str, HashSet<String>); 7] {
         ("field_cases", comments("crates/field_cases/stdout")),
         ("edges", labels_of_edges()),
         ("tapes", labels_of_tapes()),
+        ("moves", labels_of_moves()),
         ("tests", labels_of_tests()),
     ]
 }

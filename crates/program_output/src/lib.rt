@@ -1,7 +1,7 @@
 // What programs that turn one file into another share: room for the longest sheet and the longest text, and what they write, the first bytes of a
 // buffer to a file or a text to standard error. Hosts don't call it.
 ghost use mathlib.Core.Path.{_≡_};
-ghost use lib.ListN.{length};
+ghost use lib.ListN.{length, replicate};
 use filled_buffer::Filled;
 use libc::STDERR_FILENO;
 use libc::STDOUT_FILENO;
@@ -17,6 +17,7 @@ pub const LONGEST_TEXT: usize = 3_145_728;
 
 // Room for the longest sheet and one byte more, so that a longer one shows.
 pub fn sheet_room() -> [u8; 1_048_577]
+    ensures { λ r. ⌜ r ≡ replicate 1048577 0 ⌝ }
     ensures { λ r. ⌜ length r ≡ 1048577 ⌝ }
 {
     [0; 1_048_577]
@@ -24,6 +25,7 @@ pub fn sheet_room() -> [u8; 1_048_577]
 
 // Room for the longest text and one byte more, so that a longer one shows.
 pub fn text_room() -> [u8; 3_145_729]
+    ensures { λ r. ⌜ r ≡ replicate 3145729 0 ⌝ }
     ensures { λ r. ⌜ length r ≡ 3145729 ⌝ }
 {
     [0; 3_145_729]
