@@ -129,15 +129,13 @@ impl Met {
     }
 }
 
-/// The greatest tag, and the greatest that a reader of the old header alone knows.
-const LAST_TAG: u8 = 6;
-const LAST_OLD_TAG: u8 = 5;
+/// The tag of the new header, which a reader of the old one alone does not know.
+const NEW_HEADER: u8 = 6;
 
-/// One field judged in its sheet, by a reader that knows tags up to this one: 2, 3,
-/// 4, 2, then 5, then 6, 7, 18, 8 to 12.
-fn judge_field(sheet: &[u8], at: usize, met: &Met, last_tag: u8) -> Result<(Field, usize), u8> {
-    let head = sheet.get(at..at + HEAD);
-    if head.is_some_and(|head| head[0] > last_tag) {
+/// One field judged in its sheet, by a reader of both headers or of the old one
+/// alone: 2, 3, 4, 2, then 5, then 6, 7, 18, 8 to 12.
+fn judge_field<const OLD_ALONE: bool>(sheet: &[u8], at: usize, met: &Met) -> Result<(Field, usize), u8> {
+    if OLD_ALONE && sheet.get(at..at + HEAD).is_some_and(|head| head[0] == NEW_HEADER) {
         return Err(3);
     }
     let (field, next) = take_field(sheet, at)?;
@@ -150,24 +148,24 @@ fn judge_field(sheet: &[u8], at: usize, met: &Met, last_tag: u8) -> Result<(Fiel
 
 /// The day a sheet holds, or the refusal's number (SHEET 4) with its byte.
 pub fn judge_sheet(sheet: &[u8]) -> Result<Day, Refusal> {
-    judge_by_tags(sheet, LAST_TAG)
+    judge_by::<false>(sheet)
 }
 
 /// What a reader of 01 alone, the scope without its change requests, says of a sheet:
 /// it knows the old header only (W-204), and tag 6 is 3 to it.
 pub fn judge_by_01_alone(sheet: &[u8]) -> Result<(), Refusal> {
-    judge_by_tags(sheet, LAST_OLD_TAG).map(|_| ())
+    judge_by::<true>(sheet).map(|_| ())
 }
 
-/// A sheet judged by a reader that knows tags up to this one.
-fn judge_by_tags(sheet: &[u8], last_tag: u8) -> Result<Day, Refusal> {
+/// A sheet judged by a reader of both headers, or of the old one alone.
+fn judge_by<const OLD_ALONE: bool>(sheet: &[u8]) -> Result<Day, Refusal> {
     if sheet.len() > SHEET_LIMIT {
         return Err((1, 0));
     }
     let mut met = Met::default();
     let mut at = 0;
     loop {
-        let (field, next) = judge_field(sheet, at, &met, last_tag).map_err(|refusal| (refusal, at))?;
+        let (field, next) = judge_field::<OLD_ALONE>(sheet, at, &met).map_err(|refusal| (refusal, at))?;
         met.enter(&field);
         at = next;
         if let Field::End(_) = field {

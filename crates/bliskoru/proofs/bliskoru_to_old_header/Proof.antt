@@ -1,20 +1,15 @@
 -- `bliskoru::bliskoru_to_old_header` meets its contract: what the covered function answers is handed over. Assumes nothing.
 use denote.Ref.{now}
 use borrow.Author.Needs.{needs}
-use Rattle.bliskoru.specs.laws.Told.{filled-number, filled-length, filled-place}
+use Rattle.bliskoru.specs.laws.Told.{handed-over}
 use Rattle.bliskoru.proofs.bliskoru_to_old_header.Statement.{statement}
 use Rattle.bliskoru.proofs.bliskoru_to_old_header.Tie as tie
 
 returns : tie.Need-returns
 returns c =
-    let a = c .before .before .before .before .before .before .before .before .before .args in
-    let told = c .before .before .before .before .before .to-old-header .ensures in
-    let over = c .hand-over .ensures in
-    let r = c .before .before .before .before .before .to-old-header .result in (
-      filled-number r _ (over .0) (told .0),
-      (told .1, (filled-length (now (a .length)) r _ (over .1 .0) (told .0), filled-place (now (a .at)) r _ (over .1 .1) (told .0))),
-    )
+    let told = c .before .before .before .before .before in
+    let a = told .before .before .before .before .args in
+    handed-over (now (a .length)) (now (a .at)) (told .to-old-header .result) _ (c .hand-over .ensures) (told .to-old-header .ensures)
 
 pub bliskoru-to-old-header-spec : {M : Type 1} → statement M
-bliskoru-to-old-header-spec =
-    tie.close (tie.spec (λ c κs. search needs) (λ c κs. search needs) (λ c. search needs) returns)
+bliskoru-to-old-header-spec = tie.close (tie.spec (λ c κs. search needs) (λ c κs. search needs) (λ c. search needs) returns)

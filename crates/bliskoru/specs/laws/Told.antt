@@ -63,15 +63,10 @@ module _ {r : Filled} where
     pub unfilled-place : (old : ℕ) → place ≡ filledPlace old r
     unfilled-place old = ap (filledPlace old) (sym f)
 
--- what is handed over of an answer is that of what the answer is
-pub filled-number : (r d : Filled) {n : ℕ} → n ≡ filledNumber r → r ≡ d → n ≡ filledNumber d
-filled-number r d e f = e ∙ ap filledNumber f
-
-pub filled-length : (old : ℕ) (r d : Filled) {n : ℕ} → n ≡ filledLength old r → r ≡ d → n ≡ filledLength old d
-filled-length old r d e f = e ∙ ap (filledLength old) f
-
-pub filled-place : (old : ℕ) (r d : Filled) {n : ℕ} → n ≡ filledPlace old r → r ≡ d → n ≡ filledPlace old d
-filled-place old r d e f = e ∙ ap (filledPlace old) f
+-- what is handed over of an answer is that of what the answer is, whatever stands in the buffer
+pub handed-over : (length at : ℕ) (r d : Filled) {n len place : ℕ} {b c : List ℕ} → (n ≡ filledNumber r) × ((len ≡ filledLength length r) × (place ≡ filledPlace at r)) → (r ≡ d) × (b ≡ c)
+    → (n ≡ filledNumber d) × ((b ≡ c) × ((len ≡ filledLength length d) × (place ≡ filledPlace at d)))
+handed-over length at r d over is = (over .0 ∙ ap filledNumber (is .0), (is .1, (over .1 .0 ∙ ap (filledLength length) (is .0), over .1 .1 ∙ ap (filledPlace at) (is .0))))
 
 -- ---- a sheet's judgement
 
