@@ -1,6 +1,7 @@
 -- SHEET 9, what holds of the two moves, as it is stated. Moved and OldReader prove what stands here.
 --     KeepsLaw                   a moved sheet is accepted, and its six answers are the same
 --     NewAndBack, OldAndBack     moved there and back, either way, it is the sheet that it was
+--     LongerLaw                  1 is given to the new header alone, from the longest sheets
 --     judgeOld                   what a reader that knows the short header alone says of a sheet
 --     ReadLaw                    it accepts what was moved to the old header;  UnreadLaw    and refuses every accepted sheet that has the new one
 use Prim.Native.Nat.{ℕ, zero, suc, _≤_}
@@ -18,11 +19,11 @@ use Rattle.field.specs.Said.{Said, refuses}
 use Rattle.field.specs.Reading.{remaining, shapeAt}
 use Rattle.admit.specs.Admitting.{start}
 use Rattle.sheet.specs.declared.Day.{Day}
-use Rattle.sheet.specs.Fields.{behind}
+use Rattle.sheet.specs.Fields.{behind, fieldsOf}
 use Rattle.sheet.specs.Judgement.{Verdict, accepts, refuses-at, judgeReads, judgeSheet}
 use Rattle.price_rules.specs.Closing.{Told, six, answersOf}
-use Rattle.filled_buffer.specs.Filling.{made}
-use Rattle.header_mover.specs.Moving.{moved, toNew, toOld}
+use Rattle.filled_buffer.specs.Filling.{made, refused}
+use Rattle.header_mover.specs.Moving.{movedOf, moved, toNew, toOld}
 
 -- ---- a moved sheet
 
@@ -51,6 +52,12 @@ NewAndBack = (s s′ : List ℕ) (room other : ℕ) → Bytes s → toNew room s
 
 abbrev pub OldAndBack : Type 0
 OldAndBack = (s s′ : List ℕ) (room other : ℕ) → Bytes s → toOld room s ≡ made s′ → length s ≤ other → toNew other s′ ≡ made s
+
+-- ---- the longer sheet
+
+-- 1 behind the sheet's own number: to the new header alone, from a sheet that has as many bytes as a sheet may have
+abbrev pub LongerLaw : Type 0
+LongerLaw = (wanted : Form) (s : List ℕ) (day : Day) → Bytes s → judgeSheet s ≡ accepts day → movedOf wanted (fieldsOf s) day ≡ refused 1 0 → (wanted ≡ Long 0) × (length s ≡ 1048576)
 
 -- ---- a reader that knows the short header alone
 

@@ -1,13 +1,13 @@
 -- A moved sheet is accepted and its six answers are the same; moved back it is the sheet that it was.
 --     Moves        what a move that is made says of the sheet
---     keeps, new-and-back, old-and-back    the laws
+--     keeps, new-and-back, old-and-back, longer    the laws
 -- Assumes nothing.
-use Prim.Native.Nat.{ℕ, _≤_}
+use Prim.Native.Nat.{ℕ, _+_, _-_, _≤_, _<_}
 use mathlib.Core.Bool.{Bool, true, false, cond}
 use mathlib.Core.Path.{_≡_, refl, sym, ap, _∙_, subst}
 use mathlib.Core.List.{List, [], _∷_, map}
 use native.Mathlib.Omega.{arith}
-use borrow.Author.Tests.{eqb-true, le-leb}
+use borrow.Author.Tests.{eqb-true, le-leb, leb-false}
 use lib.Dec.{eqb, leb}
 use lib.ListN.{length}
 use Rattle.wire.specs.Big.{Bytes}
@@ -34,8 +34,8 @@ use Rattle.laws.specs.laws.Lift.{answers-are}
 use Rattle.filled_buffer.specs.Filling.{made, refused, ofSheet, withinLimit, inRoom}
 use Rattle.filled_buffer.specs.laws.Filling.{sheet-made, limit-made, room-made, made-room}
 use Rattle.header_mover.specs.Moving.{withForm, movedBytes, movable, movedOf, moved, toNew, toOld}
-use Rattle.header_mover.specs.laws.Moving.{later-same, rest-same}
-use Rattle.header_trips.specs.Moves.{dayIn, Keeps, KeepsLaw, NewAndBack, OldAndBack}
+use Rattle.header_mover.specs.laws.Moving.{later-same, rest-same, Accepted, headerSize, header-inside, moved-long}
+use Rattle.header_trips.specs.Moves.{dayIn, Keeps, KeepsLaw, NewAndBack, OldAndBack, LongerLaw}
 
 -- ---- which forms
 
@@ -173,3 +173,26 @@ new-and-back s s′ room other b e h = let k = moves (Long 0) room s s′ e in b
 
 pub old-and-back : OldAndBack
 old-and-back s s′ room other b e h = let k = moves Short room s s′ e in back Short (Long 0) s s′ other b k (from-new (k .day .form) (k .can)) h
+
+-- ---- the longer sheet
+
+-- only a longer header makes a sheet longer, and by one byte
+longer-by : (wanted form : Form) (n : ℕ) → movable wanted form ≡ true → headerSize form ≤ n → n ≤ 1048576 → 1048576 < headerSize wanted + (n - headerSize form) → (wanted ≡ Long 0) × (n ≡ 1048576)
+unfolding both
+longer-by Short Short n e low high h = clash cc
+longer-by Short (Long third) n e low high h = absurd (omega arith)
+longer-by (Long third) Short n e low high h = (ap Long (sym (eqb-true 0 third e)), omega arith)
+longer-by (Long third) (Long other) n e low high h = clash cc
+
+-- 1 is given where the test of the form holds, and that of the limit does not
+limit-failed : (can small : Bool) (t : List ℕ) → cond can (cond small (made t) (refused 1 0)) (refused 19 0) ≡ refused 1 0 → (can ≡ true) × (small ≡ false)
+limit-failed true true t e = clash cc
+limit-failed true false t e = (refl, refl)
+limit-failed false small t e = let z : _≡_ {A = ℕ} 19 1 = cc in absurd (omega arith)
+
+pub longer : LongerLaw
+longer wanted s day b a e =
+    let ok : Accepted s day = record { bytes = b; judged = a } in
+    let t = movedBytes wanted (fieldsOf s) in
+    let k = limit-failed (movable wanted (day .form)) (leb (length t) 1048576) t e in
+    longer-by wanted (day .form) (length s) (k .0) (header-inside s day ok) (accepted-small s day a) (omega (arith, leb-false (length t) 1048576 (k .1), moved-long s day ok wanted))
