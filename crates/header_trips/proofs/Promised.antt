@@ -4,9 +4,8 @@
 --     new-closings, old-closings    `closings` of a sheet and of the moved one
 -- Assumes nothing. Every entry of a slice of bytes is a byte: `Bytes` says so.
 use Prim.Native.Nat.{ℕ, _+_, _≤_}
-use mathlib.Core.Path.{_≡_, refl, sym, ap, ap₂, _∙_, subst}
+use mathlib.Core.Path.{_≡_, refl, sym, ap, ap₂, _∙_}
 use mathlib.Core.List.{List, _++_}
-use native.Mathlib.Omega.{arith}
 use lib.ListN.{length, take, drop}
 use lib.Seq.{take-append-seam}
 use borrow.Fn.Kinds.{endedOf}
@@ -23,7 +22,7 @@ use Rattle.price_rules.specs.declared.SixAnswers.{SixAnswers}
 use Rattle.price_rules.specs.declared.Closed.{Closed}
 use Rattle.price_rules.specs.declared.Closed.the-variants as C
 use Rattle.price_rules.specs.Closing.{six, answersOf}
-use Rattle.price_rules.specs.Says.{closingsSay, closedSays}
+use Rattle.price_rules.specs.Says.{closingsSay}
 use Rattle.price_rules.specs.laws.Says.{closed-once}
 use Rattle.laws.proofs.Promised.{Closes, says, six-day, six-answers}
 use Rattle.filled_buffer.specs.declared.Filled.{Filled}

@@ -22,7 +22,7 @@ use Rattle.admit.specs.declared.Progress.{Progress}
 use Rattle.admit.specs.Admitting.{start, Step, goes, ends, stops, admit, admitted, admitNumber}
 use Rattle.admit.specs.laws.Admitting.{stopped}
 use Rattle.sheet.specs.Fields.{fieldsOf}
-use Rattle.sheet.specs.Judgement.{Verdict, accepts, refuses-at, judgeSheet}
+use Rattle.sheet.specs.Judgement.{refuses-at, judgeSheet}
 use Rattle.sheet.specs.declared.Day.{Day}
 use Rattle.header_mover.specs.Moving.{movedBytes, movable, movedOf, moved}
 use Rattle.items.specs.Items.{first, rest}

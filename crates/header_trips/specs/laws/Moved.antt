@@ -8,7 +8,7 @@ use mathlib.Core.Path.{_≡_, refl, sym, ap, _∙_, subst}
 use mathlib.Core.List.{List, [], _∷_, map}
 use native.Mathlib.Omega.{arith}
 use borrow.Author.Tests.{eqb-true, le-leb, leb-false}
-use lib.Dec.{eqb, leb}
+use lib.Dec.{leb}
 use lib.ListN.{length}
 use Rattle.wire.specs.Big.{Bytes}
 use Rattle.field.specs.declared.Form.{Form}
@@ -16,7 +16,6 @@ use Rattle.field.specs.declared.Form.the-variants.{Short, Long}
 use Rattle.field.specs.declared.Field.{Field}
 use Rattle.field.specs.declared.Field.the-variants.{Header}
 use Rattle.field.specs.Judging.{fine, both, thirdOf, headerRight, judge}
-use Rattle.field.specs.Layout.{formTag}
 use Rattle.field.specs.laws.Field.{clash, both-true}
 use Rattle.market.specs.Market.{startOf}
 use Rattle.admit.specs.laws.Admitting.{Later}
@@ -26,16 +25,16 @@ use Rattle.sheet.specs.Fields.{fieldsOf, encode, Each}
 use Rattle.sheet.specs.Judgement.{Verdict, accepts, judgeSheet}
 use Rattle.sheet.specs.laws.Accepted.{accepted-header, accepted-right, accepted-small}
 use Rattle.sheet.specs.laws.Encoding.{accepted-encodes}
-use Rattle.price_rules.specs.Closing.{Figures, figuresOf, dealsSum, twapBy, closingsOf, six}
+use Rattle.price_rules.specs.Closing.{figuresOf, dealsSum, twapBy, closingsOf, six}
 use Rattle.laws.specs.laws.Kept.{AsBefore, Stays, Right, same-stays, headed-accepted}
 use Rattle.laws.specs.laws.Figures.{trades-header, span-header}
 use Rattle.laws.specs.laws.Turn.{Alike, alike}
 use Rattle.laws.specs.laws.Lift.{answers-are}
-use Rattle.filled_buffer.specs.Filling.{made, refused, ofSheet, withinLimit, inRoom}
+use Rattle.filled_buffer.specs.Filling.{made, refused, ofSheet, withinLimit}
 use Rattle.filled_buffer.specs.laws.Filling.{sheet-made, limit-made, room-made, made-room}
-use Rattle.header_mover.specs.Moving.{withForm, movedBytes, movable, movedOf, moved, toNew, toOld}
+use Rattle.header_mover.specs.Moving.{withForm, movedBytes, movable, movedOf, moved}
 use Rattle.header_mover.specs.laws.Moving.{later-same, rest-same, Accepted, headerSize, header-inside, moved-long}
-use Rattle.header_trips.specs.Moves.{dayIn, Keeps, KeepsLaw, NewAndBack, OldAndBack, LongerLaw}
+use Rattle.header_trips.specs.Moves.{dayIn, KeepsLaw, NewAndBack, OldAndBack, LongerLaw}
 
 -- ---- which forms
 

@@ -6,7 +6,7 @@
 --     back-and-there
 -- Assumes nothing.
 use Prim.Native.Nat.{ℕ, suc, _+_, _-_, _≤_, _<_}
-use mathlib.Core.Bool.{Bool, true, false, cond}
+use mathlib.Core.Bool.{true}
 use mathlib.Core.Path.{_≡_, refl, sym, ap, _∙_, subst}
 use mathlib.Core.List.{List, [], _∷_, _++_}
 use native.Mathlib.Omega.{arith}
@@ -23,14 +23,13 @@ use Rattle.admit.specs.Admitting.{start, beforeOf, goes, ends, admit, admitted,
 use Rattle.admit.specs.laws.Admitting.{Passed, went, ended, went-counts, kept, end-is, admit-fine}
 use Rattle.sheet.specs.declared.Day.{Day}
 use Rattle.sheet.specs.Fields.{fieldsOf, encode}
-use Rattle.sheet.specs.Judgement.{Verdict, accepts, refuses-at, dayOf, judgeSheet}
+use Rattle.sheet.specs.Judgement.{Verdict, accepts, dayOf, judgeSheet}
 use Rattle.sheet.specs.laws.Accepted.{Chain, last, more, accepted-chain, accepted-stood, accepted-small}
 use Rattle.sheet.specs.laws.Led.{stood-long}
 use Rattle.sheet.specs.laws.Encoding.{accepted-encodes, encoded-accepted}
 use Rattle.price_rules.specs.Closing.{answersBy, answersOf}
 use Rattle.items.specs.Items.{first, rest, joinedTo}
 use Rattle.items.specs.laws.Items.{cut-at, join-items}
-use Rattle.line_reader.specs.declared.Line.the-variants as L
 use Rattle.line_reader.specs.Lines.{fieldIn, lineOf}
 use Rattle.line_reader.specs.laws.Trips.{line-read, read-line, line-lacks}
 use Rattle.filled_buffer.specs.Filling.{made, ofSheet}

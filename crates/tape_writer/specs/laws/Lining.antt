@@ -1,7 +1,7 @@
 -- What holds as the lines of a sheet's fields are measured and put into the buffer, and what the answers of `sheet_to_tape` are. Assumes nothing.
 use Prim.Native.Nat.{ℕ, _+_, _-_, _*_, _/_, _≤_, _<_}
 use mathlib.Core.Bool.{Bool, true, false}
-use mathlib.Core.Path.{_≡_, refl, sym, ap, _∙_, subst}
+use mathlib.Core.Path.{_≡_, refl, sym, ap, _∙_}
 use mathlib.Core.List.{List, [], _∷_, _++_, append-assoc, append-nil}
 use native.Mathlib.Omega.{arith}
 use native.Mathlib.Nat.{le-div-iff-mul-le}
@@ -24,14 +24,14 @@ use Rattle.sheet.specs.declared.Day.{Day}
 use Rattle.sheet.specs.declared.Judged.{Judged}
 use Rattle.sheet.specs.declared.Judged.the-variants as J
 use Rattle.sheet.specs.Fields.{fieldsAt, fieldsOf, Each}
-use Rattle.sheet.specs.Judgement.{Verdict, accepts, judgeSheet, judgedSays}
+use Rattle.sheet.specs.Judgement.{accepts, judgeSheet, judgedSays}
 use Rattle.sheet.specs.laws.Accepted.{accepted-sound, accepted-small}
 use Rattle.sheet.specs.laws.Passes.{Sofar, sofar-start, sofar-stop, sofar-next, sofar-here}
 use Rattle.filled_buffer.specs.declared.Filled.{Filled}
 use Rattle.filled_buffer.specs.declared.Filled.the-variants as Filled
-use Rattle.filled_buffer.specs.Filling.{Made, made, refused, inRoom}
+use Rattle.filled_buffer.specs.Filling.{made, refused, inRoom}
 use Rattle.filled_buffer.specs.laws.Filling.{Answers, answers}
-use Rattle.tape.specs.Tape.{lineText, textOf, textMade, sheetToTape}
+use Rattle.tape.specs.Tape.{lineText, textOf}
 use Rattle.tape_trips.specs.laws.Short.{line-most, text-short}
 
 -- how long the text of fields is
