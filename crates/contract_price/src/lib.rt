@@ -1,13 +1,12 @@
-// One contract's answer, by its row of the tables and the closes before it, rounded once. Hosts do not call it: what its functions ask of their
-// caller, `six_answers` has from an accepted sheet.
+// One contract's answer, by its row of the tables, the totals of the day's trades, its TWAP instrument's sum and the closes before it, rounded once.
+// Hosts do not call it: what its functions ask of their caller, `six_answers` has from an accepted sheet.
 ghost use mathlib.Core.Path.{_≡_};
 ghost use Prim.Native.Nat.{_<_};
-ghost use Rattle.sheet.specs.Fields.{fieldsOf};
-ghost use Rattle.twap.specs.Span.{Accepted};
-ghost use Rattle.price_rules.specs.Closing.{figuresOf, twapBy, answered, rowAnswer, answerBy};
-ghost use Rattle.price_rules.specs.laws.Adding.{Bounded};
+ghost use Rattle.twap.specs.Span.{spanSays};
+ghost use Rattle.price_rules.specs.Closing.{twapBy, answered};
+ghost use Rattle.price_rules.specs.laws.Adding.{Bounded, paired};
 ghost use Rattle.price_rules.specs.Says.{answerSays};
-ghost use Rattle.contract_price.specs.laws.Ready.{Lent, spanIn, meanIn};
+ghost use Rattle.contract_price.specs.laws.Numbers.{Summable, Lent, meanBy, rowBy, stepBy};
 use cents::Rounded;
 use cents::rounded_close;
 use market::MINIMUM_LOTS;
@@ -16,7 +15,6 @@ use market::contract_by;
 use market::is_marked;
 use market::is_named;
 use market::leg_of;
-use market::start_of;
 use market::step_by;
 use price_rules::Answer;
 use price_rules::Mean;
@@ -25,14 +23,13 @@ use price_rules::Sum;
 use price_rules::implied_price;
 use price_rules::vwap_sum;
 use twap::Summed;
-use twap::span_of;
 
 // The mean of the indicator over the window, applied to the other leg's close.
-fn indicator_mean(sheet: &[u8], metal: u8, marks: u16, closes: &[u32], i: u8) -> Mean
-    requires { ⌜ Accepted (now sheet) × Bounded (now closes) × (i < 12) ⌝ }
-    ensures { λ r. ⌜ r ≡ twapBy marks (now (closes .entry)) i (spanIn (now (sheet .entry)) metal i) ⌝ }
+fn indicator_mean(marks: u16, closes: &[u32], i: u8, span: Summed) -> Mean
+    requires { ⌜ Summable (spanSays span) × Bounded (now closes) ⌝ }
+    ensures { λ r. ⌜ r ≡ twapBy marks (now (closes .entry)) i (spanSays span) ⌝ }
 {
-    match span_of(sheet, i, start_of(metal, i)) {
+    match span {
         Summed::Missing => Mean::Missing,
         Summed::Sum(total) => Mean::Of {
             method: Method::Twap,
@@ -49,9 +46,9 @@ fn indicator_mean(sheet: &[u8], metal: u8, marks: u16, closes: &[u32], i: u8) ->
 }
 
 // VWAP at the minimum of lots or more, TWAP below.
-fn mean_by_lots(sheet: &[u8], metal: u8, marks: u16, closes: &[u32], i: u8, s: Sum) -> Mean
-    requires { ⌜ Accepted (now sheet) × Bounded (now closes) × (i < 12) ⌝ }
-    ensures { λ r. ⌜ r ≡ meanIn (now (sheet .entry)) metal marks (now (closes .entry)) i s ⌝ }
+fn mean_by_lots(marks: u16, closes: &[u32], i: u8, s: Sum, span: Summed) -> Mean
+    requires { ⌜ Summable (spanSays span) × Bounded (now closes) ⌝ }
+    ensures { λ r. ⌜ r ≡ meanBy marks (now (closes .entry)) i s (spanSays span) ⌝ }
 {
     let lots = s.lots;
     if MINIMUM_LOTS <= lots {
@@ -61,7 +58,7 @@ fn mean_by_lots(sheet: &[u8], metal: u8, marks: u16, closes: &[u32], i: u8, s: S
             weight: lots,
         }
     } else {
-        indicator_mean(sheet, metal, marks, closes, i)
+        indicator_mean(marks, closes, i, span)
     }
 }
 
@@ -86,9 +83,8 @@ fn rounded(mean: Mean, lots: u64, step: u32) -> Answer
     }
 }
 
-// One contract, by its row and the closes before it: whatever the third value.
+// One contract, by its row and the closes before it.
 fn answer_by_row(
-    sheet: &[u8],
     metal: u8,
     marks: u16,
     rows: &[[u8; 4]; 6],
@@ -96,10 +92,11 @@ fn answer_by_row(
     lots: &[u64; 12],
     values: &[i64; 12],
     closes: &[u32],
+    span: Summed,
     c: usize,
 ) -> Answer
-    requires { ⌜ Lent (now sheet) metal marks (now rows) (now legs) (now lots) (now values) × Bounded (now closes) × (c < 6) ⌝ }
-    ensures { λ r. ⌜ answerSays r ≡ rowAnswer (figuresOf metal marks 0 (fieldsOf (now (sheet .entry)))) (now (closes .entry)) c ⌝ }
+    requires { ⌜ Lent (now rows) (now legs) (now lots) (now values) span × Bounded (now closes) × (c < 6) ⌝ }
+    ensures { λ r. ⌜ answerSays r ≡ rowBy metal marks (paired (now (lots .entry)) (now (values .entry))) (now (closes .entry)) (spanSays span) c ⌝ }
 {
     let row = contract_by(rows[c]);
     let s = vwap_sum(
@@ -111,14 +108,13 @@ fn answer_by_row(
         row.first,
         row.past - row.first,
     );
-    let mean = mean_by_lots(sheet, metal, marks, closes, row.twap, s);
+    let mean = mean_by_lots(marks, closes, row.twap, s, span);
     rounded(mean, s.lots, step_by(metal, row.step))
 }
 
 // The answer of a contract, with what is known before it: where 3M is that contract, 3M's. The tables, the totals and the closes are lent: copies
 // cost more than the pricing.
 pub fn price_one(
-    sheet: &[u8],
     metal: u8,
     marks: u16,
     third: u8,
@@ -127,12 +123,13 @@ pub fn price_one(
     lots: &[u64; 12],
     values: &[i64; 12],
     closes: &[u32],
+    span: Summed,
     stopped: bool,
     three: Answer,
     c: usize,
 ) -> Answer
-    requires { ⌜ Lent (now sheet) metal marks (now rows) (now legs) (now lots) (now values) × Bounded (now closes) × (c < 6) ⌝ }
-    ensures { λ r. ⌜ answerSays r ≡ answerBy (figuresOf metal marks third (fieldsOf (now (sheet .entry)))) (record { closes = now (closes .entry); stopped = stopped; three = answerSays three }) c ⌝ }
+    requires { ⌜ Lent (now rows) (now legs) (now lots) (now values) span × Bounded (now closes) × (c < 6) ⌝ }
+    ensures { λ r. ⌜ answerSays r ≡ stepBy metal marks third (paired (now (lots .entry)) (now (values .entry))) (spanSays span) (record { closes = now (closes .entry); stopped = stopped; three = answerSays three }) c ⌝ }
 {
     if stopped {
         return Answer::NotReached;
@@ -140,5 +137,5 @@ pub fn price_one(
     if is_named(third, c) {
         return three;
     }
-    answer_by_row(sheet, metal, marks, rows, legs, lots, values, closes, c)
+    answer_by_row(metal, marks, rows, legs, lots, values, closes, span, c)
 }

@@ -9,8 +9,6 @@ use Rattle.indicator.proofs.Indicator.trade.Reads as trade
 use Rattle.indicator.proofs.Indicator.trade.Kinds as tradeK
 use Rattle.indicator.proofs.Indicator.quote.Reads as quote
 use Rattle.indicator.proofs.Indicator.quote.Kinds as quoteK
-use Rattle.indicator.proofs.Indicator.has_reference.Reads as has-reference
-use Rattle.indicator.proofs.Indicator.has_reference.Kinds as has-referenceK
 use Rattle.indicator.proofs.Indicator.value.Reads as value
 use Rattle.indicator.proofs.Indicator.value.Kinds as valueK
 use Rattle.indicator.proofs.take_field.Reads as take-field
@@ -27,9 +25,6 @@ trade-once κs a x y s t p q = once p q
 
 pub quote-once : Once 0 quoteK.ps quoteK.r quote.Post (λ κs x s. x)
 quote-once κs a x y s t p q = once p q
-
-pub has-reference-once : Once 0 has-referenceK.ps has-referenceK.r has-reference.Post (λ κs x s. x)
-has-reference-once κs a x y s t p q = once p q
 
 pub value-once : Once 0 valueK.ps valueK.r value.Post (λ κs x s. x)
 value-once κs a x y s t p q = once p q

@@ -1,2 +1,3 @@
 pub mod Indicator
+pub mod Spans
 pub mod laws

@@ -1,7 +1,7 @@
 // The indicator of one instrument, a small state handed back changed by each record, and its value. Hosts don't call it.
 // specs/ has the indicator at each millisecond of a window and its sum, specs/laws the laws of that sum.
 ghost use mathlib.Core.Path.{_≡_};
-ghost use Rattle.indicator.specs.Indicator.{empty, sideOf, elseAt, present, below, belowOffer, insideBook, afterClose, afterTrade, afterQuote, valueOf, taken};
+ghost use Rattle.indicator.specs.Indicator.{empty, sideOf, elseAt, below, belowOffer, insideBook, afterClose, afterTrade, afterQuote, valueOf, taken};
 use field::Field;
 use field::Price;
 
@@ -131,17 +131,6 @@ impl Indicator {
             offer: new_offer,
         };
         self
-    }
-
-    // Whether there is a reference, and so a value.
-    pub fn has_reference(self) -> bool
-        ensures { λ r. ⌜ r ≡ present (self .reference) ⌝ }
-    {
-        let told = self.reference;
-        match told {
-            Side::Absent => false,
-            Side::At(_) => true,
-        }
     }
 
     // A bid above the reference, an offer below it, otherwise the reference; absent where there is no reference.

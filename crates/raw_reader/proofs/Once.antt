@@ -7,6 +7,8 @@ use Rattle.raw_reader.proofs.price_at.Reads as price-at
 use Rattle.raw_reader.proofs.price_at.Kinds as price-atK
 use Rattle.raw_reader.proofs.trade_of.Reads as trade-of
 use Rattle.raw_reader.proofs.trade_of.Kinds as trade-ofK
+use Rattle.raw_reader.proofs.quote_of.Reads as quote-of
+use Rattle.raw_reader.proofs.quote_of.Kinds as quote-ofK
 use Rattle.raw_reader.proofs.field_of.Reads as field-of
 use Rattle.raw_reader.proofs.field_of.Kinds as field-ofK
 
@@ -15,6 +17,9 @@ field-of-once κs a x y s t p q = once p q
 
 pub trade-of-once : Once 1 trade-ofK.ps trade-ofK.r trade-of.Post (λ κs x s. x)
 trade-of-once κs a x y s t p q = once p q
+
+pub quote-of-once : Once 1 quote-ofK.ps quote-ofK.r quote-of.Post (λ κs x s. x)
+quote-of-once κs a x y s t p q = once p q
 
 pub end-of-once : Once 1 end-ofK.ps end-ofK.r end-of.Post (λ κs x s. x)
 end-of-once κs a x y s t p q = once p q

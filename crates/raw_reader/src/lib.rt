@@ -56,7 +56,8 @@ pub fn trade_of(body: &[u8]) -> Field
     }
 }
 
-fn quote_of(body: &[u8]) -> Field
+// The same of a quote's body.
+pub fn quote_of(body: &[u8]) -> Field
     requires { ⌜ length (now body) ≡ 14 ⌝ }
     ensures { λ r. ⌜ r ≡ quoteOf (now (body .entry)) ⌝ }
 {

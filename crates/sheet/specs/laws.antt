@@ -3,6 +3,7 @@ pub mod Walk
 pub mod Passes
 pub mod Led
 pub mod Accepted
+pub mod ByInstrument
 pub mod Encoding
 pub mod Earned
 pub mod Track

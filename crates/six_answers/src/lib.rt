@@ -2,16 +2,23 @@
 // contracts, each with the closes before it.
 ghost use mathlib.Core.Path.{_≡_};
 ghost use mathlib.Core.List.{map};
+ghost use Prim.Native.Nat.{_-_, _≤_, _<_};
+ghost use Rattle.market.specs.Market.{contracts};
 ghost use Rattle.sheet.specs.Fields.{fieldsOf};
+ghost use Rattle.twap.specs.Span.{Accepted};
 ghost use Rattle.price_rules.specs.Closing.{figuresOf, isRefused, closingsOf, answersOf};
 ghost use Rattle.price_rules.specs.Says.{answerSays, closingsSay, closedSays};
-ghost use Rattle.contract_price.specs.laws.Ready.{Ready, figuresBy, bookOf};
+ghost use Rattle.six_answers.specs.laws.Ready.{Ready, figuresBy, bookOf};
+ghost use Rattle.six_answers.specs.laws.Asking.{lotsFrom, Countable, asks, someAsk, Provided};
 ghost use Rattle.six_answers.specs.laws.Apart.{lotsOnly, valueOnly};
 ghost use Rattle.six_answers.specs.laws.State.{closeIn, byName};
 use contract_price::price_one;
 use field::judge::third_of;
+use market::MINIMUM_LOTS;
+use market::contract_by;
 use market::contract_rows;
 use market::instrument_rows;
+use market::is_named;
 use price_rules::Answer;
 use price_rules::Book;
 use price_rules::Closed;
@@ -19,6 +26,8 @@ use price_rules::SixAnswers;
 use sheet::Judged;
 use trades::Total;
 use trades::totals;
+use twap::Summed;
+use twap::sums_of;
 
 // The lots of each instrument.
 fn lots_of(totals: [Total; 12]) -> [u64; 12]
@@ -81,6 +90,59 @@ fn is_refused(a: Answer) -> bool
     }
 }
 
+// The lots of the instruments from first on, below past.
+fn lots_over(lots: &[u64; 12], first: u8, past: u8) -> u64
+    requires { ⌜ Countable (now lots) × (first ≤ past) × (past ≤ 12) ⌝ }
+    ensures { λ r. ⌜ r ≡ lotsFrom (now (lots .entry)) first (past - first) ⌝ }
+{
+    let mut sum: u64 = 0;
+    let mut i = first;
+    while i < past {
+        sum += lots[i as usize];
+        i += 1;
+    }
+    sum
+}
+
+// Whether a contract is to be priced from an indicator: it has fewer lots than the minimum, over all its VWAP instruments together, and 3M is not
+// that contract.
+fn asks_indicator(rows: &[[u8; 4]; 6], lots: &[u64; 12], third: u8, c: usize) -> bool
+    requires { ⌜ (now rows ≡ contracts) × Countable (now lots) × (c < 6) ⌝ }
+    ensures { λ r. ⌜ r ≡ asks third (now (lots .entry)) c ⌝ }
+{
+    if is_named(third, c) {
+        return false;
+    }
+    let row = contract_by(rows[c]);
+    lots_over(lots, row.first, row.past) < MINIMUM_LOTS
+}
+
+// Whether one of the six is.
+fn some_ask(rows: &[[u8; 4]; 6], lots: &[u64; 12], third: u8) -> bool
+    requires { ⌜ (now rows ≡ contracts) × Countable (now lots) ⌝ }
+    ensures { λ r. ⌜ r ≡ someAsk third (now (lots .entry)) 6 ⌝ }
+{
+    let mut contract = 0;
+    while contract < 6 {
+        if asks_indicator(rows, lots, third, contract) {
+            return true;
+        }
+        contract += 1;
+    }
+    false
+}
+
+// The sums of the indicators where they are asked for; else the sheet is not gone over for them.
+fn sums_if(sheet: &[u8], metal: u8, asked: bool) -> [Summed; 12]
+    requires { ⌜ Accepted (now sheet) ⌝ }
+    ensures { λ r. ⌜ Provided asked metal (fieldsOf (now (sheet .entry))) r ⌝ }
+{
+    if asked {
+        return sums_of(sheet, metal);
+    }
+    [Summed::Missing; 12]
+}
+
 // The six contracts in pricing order, each with the closes before it and 3M's answer. The tables are looked up once, and lent.
 fn price_in_order(
     sheet: &[u8],
@@ -95,14 +157,16 @@ fn price_in_order(
 {
     let rows = contract_rows();
     let legs = instrument_rows();
+    let sums = sums_if(sheet, metal, some_ask(&rows, lots, third));
     let mut closes: [u32; 6] = [0; 6];
     let mut stopped = false;
     let mut six = [Answer::NotReached; 6];
     let mut c = 0;
     while c < 6 {
         let three = six[0];
+        let row = contract_by(rows[c]);
+        let span = sums[row.twap as usize];
         let a = price_one(
-            sheet,
             metal,
             marks,
             third,
@@ -111,6 +175,7 @@ fn price_in_order(
             lots,
             values,
             &closes,
+            span,
             stopped,
             three,
             c,

@@ -1,3 +1,4 @@
 pub mod Span
 pub mod Sizes
-pub mod Walking
+pub mod Lines
+pub mod Pass

@@ -1,18 +1,31 @@
-// What a contract's TWAP needs of its instrument: the sum of the indicator over the window, or that it has no reference. Hosts don't call it.
+// What a contract's TWAP needs of each instrument: the sum of its indicator over its window, or that it has no reference. One pass from record to
+// record for all instruments. Hosts don't call it.
 ghost use mathlib.Core.Path.{_≡_};
-ghost use Prim.Native.Nat.{_*_, _≤_, _<_};
+ghost use Prim.Native.Nat.{_≤_, _*_};
 ghost use lib.IntN.{natAbs};
+ghost use lib.ListN.{length};
+ghost use Rattle.field.specs.Layout.{fieldOf};
+ghost use Rattle.field.specs.Reading.{bodyAt};
+ghost use Rattle.field.specs.laws.Field.{Headed};
+ghost use Rattle.market.specs.Market.{startOf};
 ghost use Rattle.sheet.specs.Fields.{fieldsOf};
-ghost use Rattle.indicator.specs.Indicator.{stamp, twapSum};
-ghost use Rattle.twap.specs.Span.{spanOf, spanSays, Accepted};
-ghost use Rattle.twap.specs.laws.Walking.{Stands, withSide};
+ghost use Rattle.sheet.specs.laws.ByInstrument.{Filled, Kept};
+ghost use Rattle.indicator.specs.Indicator.{stamp};
+ghost use Rattle.twap.specs.Span.{spanSays, Accepted, Sums};
+ghost use Rattle.twap.specs.laws.Lines.{instrumentOf, tells, cutAt, withSpan, newLine, newLines, lineWith, lineOf, lineSum, Fair};
 use field::Field;
-use field::Read;
-use field_reader::shape_at;
+use field::layout;
+use field::layout::size_of;
 use indicator::Indicator;
 use indicator::Side;
 use indicator::take_field;
+use market::Metal;
 use market::WINDOW;
+use market::metal_of;
+use market::start_in;
+use raw_reader::field_of;
+use raw_reader::quote_of;
+use raw_reader::trade_of;
 
 // A sum of cents.
 pub struct Total {
@@ -25,31 +38,51 @@ pub enum Summed {
     Sum(Total),
 }
 
-// The indicator's state, the place of the first field that it does not have yet, and a millisecond before which none from there on counts.
-struct Walk {
-    state: Indicator,
-    at: usize,
-    due: u64,
+// An instrument's line: the indicator's state, whether it had a reference at the window's start, the millisecond at which its open span begins, and
+// the sum over the spans before that.
+pub struct Line {
+    pub state: Indicator,
+    pub told: bool,
+    pub since: u32,
+    pub total: Total,
 }
 
-// The millisecond from which a field counts: a record's time; any other field counts all day.
-fn stamp_of(field: Field) -> u64
-    ensures { λ r. ⌜ r ≡ stamp field ⌝ }
+// The instrument that a field is of; a header and an end have 12, which is none.
+fn instrument_of(field: Field) -> u8
+    ensures { λ r. ⌜ r ≡ instrumentOf field ⌝ }
 {
     match field {
+        Field::Header {
+            metal: _,
+            marks: _,
+            form: _,
+        } => 12,
+        Field::PreviousClose {
+            instrument,
+            price: _,
+        } => instrument,
         Field::Trade {
-            time,
-            instrument: _,
+            time: _,
+            instrument,
             price: _,
             lots: _,
-        } => time as u64,
+        } => instrument,
         Field::Quote {
-            time,
-            instrument: _,
+            time: _,
+            instrument,
             sides: _,
             bid: _,
             offer: _,
-        } => time as u64,
+        } => instrument,
+        Field::End { count: _ } => 12,
+    }
+}
+
+// The millisecond from which a field counts: a record's time; any other field counts all day.
+fn stamp_of(field: Field) -> u32
+    ensures { λ r. ⌜ r ≡ stamp field ⌝ }
+{
+    match field {
         Field::Header {
             metal: _,
             marks: _,
@@ -59,96 +92,185 @@ fn stamp_of(field: Field) -> u64
             instrument: _,
             price: _,
         } => 0,
+        Field::Trade {
+            time,
+            instrument: _,
+            price: _,
+            lots: _,
+        } => time,
+        Field::Quote {
+            time,
+            instrument: _,
+            sides: _,
+            bid: _,
+            offer: _,
+        } => time,
         Field::End { count: _ } => 0,
     }
 }
 
-// Takes every field that counts at the millisecond, and stops at the first that comes later.
-fn advance(sheet: &[u8], instrument: u8, millisecond: u64, walk: Walk) -> Walk
-    requires { ⌜ Stands instrument millisecond (now sheet) walk × (millisecond < 18446744073709551615) ⌝ }
-    ensures { λ r. ⌜ Stands instrument millisecond (now (sheet .entry)) r × (millisecond < r .due) ⌝ }
+// Whether a field of an instrument gives it a reference by a start: a previous close, or a trade by then.
+fn tells_by(start: u32, field: Field) -> bool
+    ensures { λ r. ⌜ r ≡ tells start field ⌝ }
 {
-    let mut state = walk.state;
-    let mut at = walk.at;
-    loop {
-        match shape_at(sheet, at) {
-            Read::Field(field, next) => {
-                let due = stamp_of(field);
-                if millisecond < due {
-                    return Walk { state, at, due };
-                }
-                state = take_field(state, instrument, field);
-                at = next;
-            }
-            Read::Refused(_, _) => {
-                return Walk {
-                    state,
-                    at,
-                    due: 18_446_744_073_709_551_615,
-                };
-            }
-        }
+    match field {
+        Field::Header {
+            metal: _,
+            marks: _,
+            form: _,
+        } => false,
+        Field::PreviousClose {
+            instrument: _,
+            price: _,
+        } => true,
+        Field::Trade {
+            time,
+            instrument: _,
+            price: _,
+            lots: _,
+        } => time <= start,
+        Field::Quote {
+            time: _,
+            instrument: _,
+            sides: _,
+            bid: _,
+            offer: _,
+        } => false,
+        Field::End { count: _ } => false,
     }
 }
 
-// The walk at a millisecond: no field is read where none is due.
-fn stand_at(sheet: &[u8], instrument: u8, millisecond: u64, walk: Walk) -> Walk
-    requires { ⌜ Stands instrument millisecond (now sheet) walk × (millisecond < 18446744073709551615) ⌝ }
-    ensures { λ r. ⌜ Stands instrument millisecond (now (sheet .entry)) r × (millisecond < r .due) ⌝ }
+// Where a span that begins at `since` ends for a record of this time: not before it began, and not behind the window.
+fn cut_at(since: u32, until: u32, time: u32) -> u32
+    ensures { λ r. ⌜ r ≡ cutAt since until time ⌝ }
 {
-    if walk.due <= millisecond {
-        advance(sheet, instrument, millisecond, walk)
-    } else {
-        walk
+    if time <= since {
+        return since;
     }
+    if until <= time {
+        return until;
+    }
+    time
 }
 
-// The total with a side more; one that is absent counts 0.
-fn plus(total: Total, side: Side) -> Total
-    requires { ⌜ natAbs (total .cents) ≤ 300000 * 99999999 ⌝ }
-    ensures { λ r. ⌜ r ≡ withSide total side ⌝ }
+// The total with a span more: so many milliseconds times a side; one that is absent counts 0.
+fn plus(total: Total, side: Side, milliseconds: u32) -> Total
+    requires { ⌜ (natAbs (total .cents) ≤ 300000 * 99999999) × (milliseconds ≤ 300000) ⌝ }
+    ensures { λ r. ⌜ r ≡ withSpan total side milliseconds ⌝ }
 {
     match side {
         Side::Absent => total,
         Side::At(price) => Total {
-            cents: total.cents + price.cents as i64,
+            cents: total.cents + milliseconds as i64 * price.cents as i64,
         },
     }
 }
 
-// The sum over the window's milliseconds, one after the other, from a walk that stands at the first.
-fn sum_from(sheet: &[u8], instrument: u8, start: u32, first: Walk) -> Total
-    requires { ⌜ Accepted (now sheet) ⌝ }
-    requires { ⌜ Stands instrument start (now sheet) first ⌝ }
-    ensures { λ r. ⌜ r .cents ≡ twapSum instrument start (fieldsOf (now (sheet .entry))) ⌝ }
+// The line of an instrument with one of its fields more.
+fn line_with(line: Line, instrument: u8, start: u32, field: Field) -> Line
+    requires { ⌜ Fair start line × (start ≤ 60900000) ⌝ }
+    ensures { λ r. ⌜ r ≡ lineWith instrument start line field ⌝ }
 {
-    let mut walk = first;
-    let mut total = Total { cents: 0 };
-    let mut past: u32 = 0;
-    while past < WINDOW {
-        let millisecond = start as u64 + past as u64;
-        walk = stand_at(sheet, instrument, millisecond, walk);
-        let state = walk.state;
-        total = plus(total, state.value());
-        past += 1;
+    let state = line.state;
+    let next = take_field(state, instrument, field);
+    let since = line.since;
+    let to = cut_at(since, start + WINDOW, stamp_of(field));
+    let before = line.total;
+    let total = plus(before, state.value(), to - since);
+    let told = line.told || tells_by(start, field);
+    Line {
+        state: next,
+        told,
+        since: to,
+        total,
     }
-    total
 }
 
-// The sum of the instrument's indicator over the window that starts at start, in an accepted sheet.
-pub fn span_of(sheet: &[u8], instrument: u8, start: u32) -> Summed
-    requires { ⌜ Accepted (now sheet) ⌝ }
-    ensures { λ r. ⌜ spanSays r ≡ spanOf instrument start (fieldsOf (now (sheet .entry))) ⌝ }
+// Before any field.
+fn new_line(start: u32) -> Line
+    ensures { λ r. ⌜ r ≡ newLine start ⌝ }
 {
-    let none = Walk {
+    Line {
         state: Indicator::empty(),
-        at: 0,
-        due: 0,
-    };
-    let first = advance(sheet, instrument, start as u64, none);
-    let state = first.state;
-    if state.has_reference() {
-        return Summed::Sum(sum_from(sheet, instrument, start, first));
+        told: false,
+        since: start,
+        total: Total { cents: 0 },
+    }
+}
+
+fn new_lines(row: Metal) -> [Line; 12]
+    ensures { λ r. ⌜ r ≡ newLines row ⌝ }
+{
+    let spread = new_line(row.spread);
+    let mut lines = [spread; 12];
+    lines[0] = new_line(row.anchor);
+    lines
+}
+
+// The field whose head and body are known to stand at a place. Trades and quotes have branches of their own, since nearly all fields are.
+fn field_here(sheet: &[u8], at: usize, tag: u8) -> Field
+    requires { ⌜ Headed (now sheet) at tag ⌝ }
+    ensures { λ r. ⌜ r ≡ fieldOf tag (bodyAt (now (sheet .entry)) at tag) ⌝ }
+{
+    let start = at + 3;
+    let next = at + size_of(tag);
+    if tag == layout::TRADE {
+        return trade_of(&sheet[start..next]);
+    }
+    if tag == layout::QUOTE {
+        return quote_of(&sheet[start..next]);
+    }
+    field_of(tag, &sheet[start..next])
+}
+
+// The twelve lines of a sheet that fields fill to its end.
+fn lines_of(sheet: &[u8], metal: u8) -> [Line; 12]
+    requires { ⌜ Filled (now sheet) × (length (now sheet) ≤ 1048576) ⌝ }
+    ensures { λ r. ⌜ Kept (lineOf metal) (newLine 0) (fieldsOf (now (sheet .entry))) r ⌝ }
+{
+    let row = metal_of(metal);
+    let mut lines = new_lines(row);
+    let mut at = 0;
+    while at < sheet.len() {
+        let tag = sheet[at];
+        let field = field_here(sheet, at, tag);
+        let instrument = instrument_of(field);
+        let i = instrument as usize;
+        if i < 12 {
+            lines[i] = line_with(lines[i], instrument, start_in(row, instrument), field);
+        }
+        at = at + size_of(tag);
+    }
+    lines
+}
+
+// What a line comes to with its last span, up to the window's end.
+fn sum_of(line: Line, start: u32) -> Summed
+    requires { ⌜ Fair start line × (start ≤ 60900000) ⌝ }
+    ensures { λ r. ⌜ spanSays r ≡ lineSum start line ⌝ }
+{
+    if line.told {
+        let state = line.state;
+        let before = line.total;
+        let left = start + WINDOW - line.since;
+        return Summed::Sum(plus(before, state.value(), left));
     }
     Summed::Missing
+}
+
+// The sum of each instrument's indicator, 0 to 11, over its window, in an accepted sheet.
+pub fn sums_of(sheet: &[u8], metal: u8) -> [Summed; 12]
+    requires { ⌜ Accepted (now sheet) ⌝ }
+    ensures { λ r. ⌜ Sums metal (fieldsOf (now (sheet .entry))) r ⌝ }
+{
+    let row = metal_of(metal);
+    let lines = lines_of(sheet, metal);
+    let mut sums = [Summed::Missing; 12];
+    let mut i: u8 = 0;
+    while i < 12 {
+        let k = i as usize;
+        sums[k] = sum_of(lines[k], start_in(row, i));
+        i += 1;
+    }
+    sums
 }

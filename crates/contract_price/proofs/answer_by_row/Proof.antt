@@ -1,26 +1,19 @@
 -- `contract_price::answer_by_row` meets its contract. Assumes nothing.
-use mathlib.Core.Path.{_≡_, ap, _∙_}
+use mathlib.Core.Path.{_≡_, _∙_}
 use native.Mathlib.Omega.{arith}
-use denote.Ref.{now}
-use mathlib.Core.List.{List, []}
-use Prim.Native.Nat.{ℕ}
-use lib.ListN.{getD}
-use Rattle.market.specs.Market.{contractBy, contractOf, stepOf}
-use Rattle.market.specs.laws.Rules.{Ruled, ruled}
-use Rattle.contract_price.specs.laws.Ready.{bookOf, few, ready-small, row-is}
+use Rattle.market.specs.Market.{contractOf, stepOf}
+use Rattle.market.specs.laws.Rules.{Ruled}
+use Rattle.contract_price.specs.laws.Numbers.{few, row-built, row-of, row-ruled}
 use borrow.Author.Needs.{needs}
 use Rattle.contract_price.proofs.answer_by_row.Statement.{statement}
 use Rattle.contract_price.proofs.answer_by_row.Tie as tie
 
 -- the row is the table's, and as its rules have it
-row-of : (c : tie.After-contract-by) → c .contract-by .result ≡ contractOf (c .before .before .before .before .args .c)
-unfolding contractOf
-row-of c =
-    let s = c .before .before .before .before in
-    c .contract-by .ensures ∙ ap (λ (l : List (List ℕ)). contractBy (getD l (s .args .c) [])) (s .pre .0 .rows)
+row-is : (c : tie.After-contract-by) → c .contract-by .result ≡ contractOf (c .before .before .before .args .c)
+row-is c = let s = c .before .before .before in row-of (s .args .c) (c .contract-by .ensures) (s .pre .0 .rows)
 
-row : (c : tie.After-contract-by) → Ruled (c .before .before .before .before .args .c) (c .contract-by .result)
-row c = let s = c .before .before .before .before in rw (row-of c) (ruled (s .args .c) (s .pre .2))
+row : (c : tie.After-contract-by) → Ruled (c .before .before .before .args .c) (c .contract-by .result)
+row c = let s = c .before .before .before in row-ruled (s .args .c) (c .contract-by .ensures) (s .pre .0 .rows) (s .pre .2)
 
 mul-contract-by : tie.Need-mul-contract-by
 mul-contract-by c = search needs
@@ -37,14 +30,11 @@ sub-vwap-sum c = omega (arith, row (c .before) .order, row (c .before) .among)
 vwap-sum-requires : tie.Need-vwap-sum-requires
 vwap-sum-requires c κs =
     let k = c .before in
-    let s = k .before .before .before .before in
-    (s .pre .0 .legs, ready-small _ _ (s .pre .0 .ready), s .pre .1, rw (row-of k) (few (s .args .c) (s .pre .2)), omega (arith, row k .order, row k .among, row k .inside))
+    let s = k .before .before .before in
+    (s .pre .0 .legs, s .pre .0 .small, s .pre .1, rw (row-is k) (few (s .args .c) (s .pre .2)), omega (arith, row k .order, row k .among, row k .inside))
 
 mean-by-lots-requires : tie.Need-mean-by-lots-requires
-mean-by-lots-requires c κs =
-    let k = c .before .before in
-    let s = k .before .before .before .before in
-    (s .pre .0 .ready .accepted, s .pre .1, omega (arith, row k .among, row k .inside))
+mean-by-lots-requires c κs = let s = c .before .before .before .before .before in (s .pre .0 .summable, s .pre .1)
 
 step-by-requires : tie.Need-step-by-requires
 step-by-requires c κs = search needs
@@ -53,20 +43,17 @@ rounded-requires : tie.Need-rounded-requires
 rounded-requires c κs = search needs
 
 -- the step is the contract's
-step : (c : tie.After-step-by) → let s = c .before .before .before .before .before .before .before .before in c .step-by .result ≡ stepOf (s .args .metal) (s .args .c)
+step : (c : tie.After-step-by) → let s = c .before .before .before .before .before .before .before in c .step-by .result ≡ stepOf (s .args .metal) (s .args .c)
 unfolding stepOf
-step c = c .step-by .ensures ∙ rw (row-of (c .before .before .before .before))
+step c = c .step-by .ensures ∙ rw (row-is (c .before .before .before .before))
 
 returns : tie.Need-returns
 returns c =
     let m = c .before .before in
     let t = m .before in
     let k = t .before .before in
-    let s = k .before .before .before .before in
     rw (step (c .before)) at (c .rounded .ensures)
-    ∙ row-is (now (s .args .sheet)) (bookOf (s .args .metal) (s .args .marks) 0 (now (s .args .lots)) (now (s .args .values))) (s .pre .0 .ready) (now (s .args .closes)) (s .args .c) (s .pre .2)
-    (t .vwap-sum .ensures ∙ rw (row-of k))
-    (m .mean-by-lots .ensures ∙ rw (row-of k))
+    ∙ row-built _ _ _ _ _ _ (t .vwap-sum .ensures ∙ rw (row-is k)) (m .mean-by-lots .ensures ∙ rw (row-is k))
 
 pub answer-by-row-spec : {M : Type 1} → statement M
 answer-by-row-spec =

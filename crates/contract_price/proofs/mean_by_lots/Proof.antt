@@ -12,7 +12,7 @@ indicator-mean-requires c κs = search needs
 
 returns : tie.Need-returns
 returns c =
-    let s = c .before .before .before .before in
+    let s = c .before .before .before in
     let same : toZ w64 (ofZ w64 (s .args .s .sum)) ≡ s .args .s .sum = search needs in
     rw (same, le-leb _ _ (c .before .if1 .taken)) refl
 

@@ -1,11 +1,12 @@
 -- `contract_price::price_one` meets its contract. Assumes nothing.
 use mathlib.Core.Path.{refl}
-use Rattle.contract_price.specs.laws.Ready.{step-named, step-rowed}
+use Rattle.contract_price.specs.laws.Numbers.{stepBy, step-named, step-rowed}
 use borrow.Author.Needs.{needs}
 use Rattle.contract_price.proofs.price_one.Statement.{statement}
 use Rattle.contract_price.proofs.price_one.Tie as tie
 
 returns : tie.Need-returns
+unfolding stepBy
 returns c = rw (c .if1 .taken) refl
 
 is-named-requires : tie.Need-is-named-requires

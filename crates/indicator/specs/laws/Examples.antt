@@ -1,4 +1,5 @@
--- P4, the worked example of RULES 6: 375 for one minute, 400 for two, 375 for one and 350 for one are 380 on average. Here the sum, 300,000 times that.
+-- P4, the worked example of RULES 6: 375 for one minute, 400 for two, 375 for one and 350 for one are 380 on average. Here its spans, and the sum,
+-- 300,000 times that.
 -- G1 and G2: quotes that rest from before the window, over a last trade at 375.
 -- Assumes nothing.
 use Prim.Native.Nat.{ℕ, _+_, _*_}
@@ -12,10 +13,10 @@ use Rattle.field.specs.declared.Field.{Field}
 use Rattle.field.specs.declared.Field.the-variants.{Trade, Quote}
 use Rattle.market.specs.Market.{windowLength}
 use Rattle.market.specs.laws.Rows.{window-length}
-use Rattle.indicator.specs.declared.Indicator.{Indicator}
-use Rattle.indicator.specs.Indicator.{centsOf, empty, valueOf, taken, afterFrom, sumFrom, centsAt, twapSum, hasReference}
-use Rattle.indicator.specs.laws.Sums.{sum-none}
-use Rattle.indicator.specs.laws.Indicator.{Rising, Reached, reached-none, reached-more, reached-on, Counted, allTaken, whole-window}
+use Rattle.indicator.specs.Indicator.{centsOf, empty, valueOf, taken, afterFrom, twapSum, hasReference}
+use Rattle.indicator.specs.Spans.{PricedSpan, spansFrom, spansOf, productsOf}
+use Rattle.indicator.specs.laws.Indicator.{Rising, Counted, allTaken, whole-window}
+use Rattle.indicator.specs.laws.Spans.{by-spans}
 
 -- the start of Copper's spread window
 abbrev pub start : ℕ
@@ -28,64 +29,30 @@ traded = Trade 59000000 7 (record { cents = pos 375 }) 1
 abbrev quoted : ℕ → ℕ → ℕ → ℕ → Field
 quoted time sides bid offer = Quote time 7 sides (record { cents = pos bid }) (record { cents = pos offer })
 
-abbrev rest4 : List Field
-rest4 = quoted 60240000 2 0 350 ∷ []
-
-abbrev rest3 : List Field
-rest3 = quoted 60180000 2 0 450 ∷ rest4
-
-abbrev rest2 : List Field
-rest2 = quoted 60120000 3 400 450 ∷ rest3
-
-abbrev rest1 : List Field
-rest1 = quoted 60060000 1 400 0 ∷ rest2
-
 -- the fields of the day
 abbrev pub day : List Field
-day = traded ∷ rest1
+day = traded ∷ quoted 60060000 1 400 0 ∷ quoted 60120000 3 400 450 ∷ quoted 60180000 2 0 450 ∷ quoted 60240000 2 0 350 ∷ []
 
--- the state after one field, two, .., five
-abbrev one : Indicator
-one = taken 7 empty traded
+-- its spans, as a clerk writes them
+abbrev line : ℕ → ℕ → ℕ → PricedSpan
+line from to cents = record { from = from; to = to; price = pos cents }
 
-abbrev two : Indicator
-two = taken 7 one (quoted 60060000 1 400 0)
+abbrev pub table : List PricedSpan
+table =
+    line 60000000 60060000 375 ∷
+    line 60060000 60120000 400 ∷
+    line 60120000 60180000 400 ∷
+    line 60180000 60240000 375 ∷
+    line 60240000 60300000 350 ∷
+    []
 
-abbrev three : Indicator
-three = taken 7 two (quoted 60120000 3 400 450)
-
-abbrev four : Indicator
-four = taken 7 three (quoted 60180000 2 0 450)
-
-abbrev five : Indicator
-five = taken 7 four (quoted 60240000 2 0 350)
-
--- which the indicator has from each record's time on
-by-one : Reached 7 60000000 day one rest1
-by-one = reached-more 7 day 0 60000000 empty traded rest1 (lit≤ tt) (lit≤ tt) (reached-none 7 day)
-
-by-two : Reached 7 60060000 day two rest2
-by-two = reached-more 7 day 60000000 60060000 one (quoted 60060000 1 400 0) rest2 (lit≤ tt) (lit≤ tt) by-one
-
-by-three : Reached 7 60120000 day three rest3
-by-three = reached-more 7 day 60060000 60120000 two (quoted 60120000 3 400 450) rest3 (lit≤ tt) (lit≤ tt) by-two
-
-by-four : Reached 7 60180000 day four rest4
-by-four = reached-more 7 day 60120000 60180000 three (quoted 60180000 2 0 450) rest4 (lit≤ tt) (lit≤ tt) by-three
-
-by-five : Reached 7 60240000 day five []
-by-five = reached-more 7 day 60180000 60240000 four (quoted 60240000 2 0 350) [] (lit≤ tt) (lit≤ tt) by-four
+pub p4-spans : spansOf 7 start day ≡ table
+unfolding spansFrom taken windowLength
+p4-spans = refl
 
 pub p4 : twapSum 7 start day ≡ pos (300000 * 380)
-unfolding taken
-p4 =
-    ap (sumFrom (centsAt 7 day) start) window-length
-    ∙ sym (reached-on 7 day start 240000 60000 five [] _ by-five tt
-    (reached-on 7 day start 180000 60000 four rest4 _ by-four (lit≤ tt, tt)
-    (reached-on 7 day start 120000 60000 three rest3 _ by-three (lit≤ tt, (lit≤ tt, tt))
-    (reached-on 7 day start 60000 60000 two rest2 _ by-two (lit≤ tt, (lit≤ tt, (lit≤ tt, tt)))
-    (reached-on 7 day start 0 60000 one rest1 (pos 0) by-one (lit≤ tt, (lit≤ tt, (lit≤ tt, (lit≤ tt, tt))))
-    (sym (sum-none (centsAt 7 day) start)))))))
+unfolding productsOf
+p4 = sym (by-spans 7 start day (lit≤ tt, (lit≤ tt, (lit≤ tt, (lit≤ tt, (lit≤ tt, tt)))))) ∙ ap productsOf p4-spans
 
 -- and there is a reference at the window's first millisecond
 pub p4-reference : hasReference 7 start day ≡ true

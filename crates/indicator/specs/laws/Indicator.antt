@@ -1,14 +1,12 @@
 -- Laws of the state over a list of fields: what a pass over a sheet goes by, and when there is a reference.
 --     Rising           previous closes before records, whose times never fall
 --     due, late        a field that counts is taken; fields that all come later change nothing
---     Reached          a pass that has taken the fields that count at t stands in the state s, with the rest to come
---     reached-..       it begins, goes on by one field, and has the indicator's state and its sum until the next field
 --     parted           the fields that count at t stand before those that come later, and the state at t is the one after them
 --     whole-window     where all fields come by the window's start or behind the window, one indicator throughout
 --     reference-told   13's words: a previous close, or a trade of the instrument by then
 --     book-latest      the book's words: the latest quote record by then, and empty where there is none
 -- Assumes nothing.
-use Prim.Native.Nat.{ℕ, suc, _+_, _≤_, _<_}
+use Prim.Native.Nat.{ℕ, suc, _+_, _≤_, _<_, zero-le}
 use mathlib.Core.Path.{_≡_, refl, sym, ap, subst, _∙_}
 use mathlib.Core.Bool.{Bool, true, false, cond}
 use mathlib.Core.List.{List, [], _∷_, _++_}
@@ -17,7 +15,7 @@ use native.Mathlib.Decide.{decLt}
 use native.Mathlib.Omega.{arith}
 use borrow.Author.Tests.{le-leb, lt-leb}
 use lib.Dec.{T, leb, eqb, leb→le, le→leb}
-use lib.IntN.{ℤ, pos, _+ℤ_, _*ℤ_}
+use lib.IntN.{pos, _*ℤ_}
 use Rattle.field.specs.declared.Price.{Price}
 use Rattle.field.specs.declared.Field.{Field}
 use Rattle.field.specs.declared.Field.the-variants.{Header, PreviousClose, Trade, Quote, End}
@@ -26,8 +24,8 @@ use Rattle.market.specs.Market.{windowLength}
 use Rattle.indicator.specs.declared.Side.{Side}
 use Rattle.indicator.specs.declared.Side.the-variants.{Absent, At}
 use Rattle.indicator.specs.declared.Indicator.{Indicator}
-use Rattle.indicator.specs.Indicator.{sideOf, empty, present, centsOf, afterTrade, afterClose, afterQuote, elseAt, valueOf, taken, stamp, afterFrom, after, centsAt, sumFrom, twapSum, hasReference}
-use Rattle.indicator.specs.laws.Sums.{sum-append, sum-const}
+use Rattle.indicator.specs.Indicator.{sideOf, empty, present, centsOf, afterTrade, afterClose, afterQuote, elseAt, valueOf, taken, stamp, afterFrom, after, centsAt, twapSum, hasReference}
+use Rattle.indicator.specs.laws.Sums.{sum-const}
 
 -- previous closes before records, whose times never fall, from t on
 abbrev pub Rising : ℕ → List Field → Type 0
@@ -46,6 +44,22 @@ rising-low t u (PreviousClose instrument price ∷ fs) l h = (omega (arith, h .0
 rising-low t u (Trade time instrument price lots ∷ fs) l h = (le-trans l (h .0), h .1)
 rising-low t u (Quote time instrument sides bid offer ∷ fs) l h = (le-trans l (h .0), h .1)
 rising-low t u (End count ∷ fs) l h = rising-low t u fs l h
+
+-- behind a field the rest rises
+pub rest-rises : (f : Field) (fs : List Field) → Rising 0 (f ∷ fs) → Rising 0 fs
+rest-rises (Header metal marks form) fs r = r .1
+rest-rises (PreviousClose instrument price) fs r = r .1
+rest-rises (Trade time instrument price lots) fs r = rising-low 0 time fs zero-le (r .1)
+rest-rises (Quote time instrument sides bid offer) fs r = rising-low 0 time fs zero-le (r .1)
+rest-rises (End count) fs r = r
+
+-- from a field on none counts before it
+pub stamp-rises : (f : Field) (fs : List Field) → Rising 0 (f ∷ fs) → Rising (stamp f) (f ∷ fs)
+stamp-rises (Header metal marks form) fs r = r
+stamp-rises (PreviousClose instrument price) fs r = r
+stamp-rises (Trade time instrument price lots) fs r = (le-refl time, r .1)
+stamp-rises (Quote time instrument sides bid offer) fs r = (le-refl time, r .1)
+stamp-rises (End count) fs r = r
 
 module _ (i t : ℕ) where
   -- the fields of one list, then those of another
@@ -77,38 +91,6 @@ module _ (i t : ℕ) where
   late m s (Trade time instrument price lots ∷ fs) l h = not-due s (Trade time instrument price lots) fs (omega (arith, h .0)) ∙ late time s fs (omega (arith, h .0)) (h .1)
   late m s (Quote time instrument sides bid offer ∷ fs) l h = not-due s (Quote time instrument sides bid offer) fs (omega (arith, h .0)) ∙ late time s fs (omega (arith, h .0)) (h .1)
   late m s (End count ∷ fs) l h = due s (End count) fs (omega arith) ∙ late m s fs l h
-
--- ---- a pass over the fields
-
--- from the millisecond t on the state s and the fields rest say what all the fields say
-pub record Reached (i t : ℕ) (fs : List Field) (s : Indicator) (rest : List Field) : Type 0 where
-  pub same : (u : ℕ) → t ≤ u → after i u fs ≡ afterFrom i u s rest
-
-module _ (i : ℕ) (fs : List Field) where
-  -- no field yet
-  pub reached-none : Reached i 0 fs empty fs
-  reached-none = record { same = λ u l. refl }
-
-  -- a later millisecond
-  pub reached-later : (t u : ℕ) (s : Indicator) (rest : List Field) → t ≤ u → Reached i t fs s rest → Reached i u fs s rest
-  reached-later t u s rest l r = record { same = λ v h. r .same v (le-trans l h) }
-
-  -- one field more, which counts at u
-  pub reached-more : (t u : ℕ) (s : Indicator) (f : Field) (rest : List Field) → t ≤ u → stamp f ≤ u → Reached i t fs s (f ∷ rest) → Reached i u fs (taken i s f) rest
-  reached-more t u s f rest l k r = record { same = λ v h. r .same v (le-trans l h) ∙ due i v s f rest (le-trans k h) }
-
-  -- until the next field the state is the indicator's
-  pub reached-state : (t u m : ℕ) (s : Indicator) (rest : List Field) → Reached i t fs s rest → t ≤ u → u < m → Rising m rest → after i u fs ≡ s
-  reached-state t u m s rest r l h o = r .same u l ∙ late i u m s rest h o
-
-  -- n milliseconds from t on in which no field falls
-  pub reached-sum : (t n : ℕ) (s : Indicator) (rest : List Field) → Reached i t fs s rest → Rising (t + n) rest → sumFrom (centsAt i fs) t n ≡ pos n *ℤ centsOf (valueOf s)
-  reached-sum t n s rest r o = sum-const (centsAt i fs) t n (centsOf (valueOf s)) (λ j l h. ap (λ (x : Indicator). centsOf (valueOf x)) (reached-state t j (t + n) s rest r l h o))
-
-  -- the same behind the k milliseconds that were summed before
-  pub reached-on : (start k n : ℕ) (s : Indicator) (rest : List Field) (sum : ℤ) → Reached i (start + k) fs s rest → Rising (start + k + n) rest
-      → sum ≡ sumFrom (centsAt i fs) start k → sum +ℤ pos n *ℤ centsOf (valueOf s) ≡ sumFrom (centsAt i fs) start (k + n)
-  reached-on start k n s rest sum r o e = simp (e, sum-append (centsAt i fs) start k n, reached-sum (start + k) n s rest r o)
 
 -- ---- fields with rising times part at t
 

@@ -3,20 +3,21 @@
 --     cases          the table;  cases-hold    every row of it holds
 -- Assumes nothing.
 use Prim.Native.Nat.{ℕ, _*_}
-use mathlib.Core.Path.{_≡_, refl, ap, _∙_}
+use mathlib.Core.Path.{_≡_, refl, sym, ap}
 use mathlib.Core.Bool.{Bool, true, false}
 use mathlib.Core.List.{List, [], _∷_}
 use lib.Dec.{lit≤}
 use lib.IntN.{ℤ, pos, negℤ}
 use Rattle.field.specs.declared.Field.{Field}
 use Rattle.field.specs.declared.Field.the-variants.{PreviousClose, Trade}
-use Rattle.market.specs.Market.{M3, M2, M4, M1, Cash, isIn, named, metalOf, contractOf, legOf, stepOf, startOf, inWindow, marked}
+use Rattle.market.specs.Market.{M3, M2, M4, M1, Cash, isIn, named, metalOf, contractOf, legOf, stepOf, startOf, windowLength, inWindow, marked}
 use Rattle.market.specs.laws.Rows.{window-length}
 use Rattle.cents.specs.Round.{round}
 use Rattle.price_rules.specs.declared.Method.the-variants.{Vwap, Twap}
 use Rattle.cents.specs.Close.{closeOf}
-use Rattle.indicator.specs.Indicator.{empty, taken, afterFrom, sumFrom, centsAt, twapSum}
-use Rattle.indicator.specs.laws.Indicator.{reached-none, reached-more, reached-sum}
+use Rattle.indicator.specs.Indicator.{taken, afterFrom, twapSum}
+use Rattle.indicator.specs.Spans.{spansFrom, productsOf}
+use Rattle.indicator.specs.laws.Spans.{by-spans}
 use Rattle.indicator.specs.laws.Examples.{p4, p4-reference}
 use Rattle.indicator.specs.laws.Examples as m1
 use Rattle.twap.specs.Span.{missing, sum, spanOf}
@@ -97,26 +98,17 @@ cases =
     stepped 1 (behindThree false) M4 (refused 13 0) ∷  -- P15
     []
 
--- ---- the sums of the three that go by TWAP: by laws of the sum, and not millisecond by millisecond
+-- ---- the sums of the three that go by TWAP, by their spans
 
 -- a previous close alone
 cash-sum : twapSum 11 60000000 forCash ≡ pos (300000 * 50)
-unfolding taken
-cash-sum =
-    let f = PreviousClose 11 (record { cents = pos 50 }) in
-    ap (sumFrom (centsAt 11 forCash) 60000000) window-length
-    ∙ reached-sum 11 forCash 60000000 300000 (taken 11 empty f) [] (reached-more 11 forCash 0 60000000 empty f [] (lit≤ tt) (lit≤ tt) (reached-none 11 forCash)) tt
+unfolding spansFrom productsOf taken windowLength
+cash-sum = sym (by-spans 11 60000000 forCash (refl, tt))
 
 -- a trade at the window's first millisecond
 four-sum : twapSum 3 60000000 fourLots ≡ pos (300000 * 10)
-unfolding taken
-four-sum =
-    let f = deal 2 (pos 20) 3 in
-    let g = deal 3 (pos 10) 1 in
-    let s = taken 3 empty f in
-    let by-f = reached-more 3 fourLots 0 60000000 empty f (g ∷ []) (lit≤ tt) (lit≤ tt) (reached-none 3 fourLots) in
-    ap (sumFrom (centsAt 3 fourLots) 60000000) window-length
-    ∙ reached-sum 3 fourLots 60000000 300000 (taken 3 s g) [] (reached-more 3 fourLots 60000000 60000000 s g [] (lit≤ tt) (lit≤ tt) by-f) tt
+unfolding spansFrom productsOf taken windowLength
+four-sum = sym (by-spans 3 60000000 fourLots (lit≤ tt, (lit≤ tt, tt)))
 
 -- and the sums that the windows have
 m1-span : spanOf 7 60000000 forM1 ≡ sum (pos (300000 * 380))

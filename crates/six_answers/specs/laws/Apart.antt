@@ -14,7 +14,7 @@ use Rattle.trades.specs.declared.Total.{Total}
 use Rattle.trades.specs.Trades.{none}
 use Rattle.price_rules.specs.declared.Book.{Book}
 use Rattle.price_rules.specs.laws.Adding.{paired}
-use Rattle.contract_price.specs.laws.Ready.{Ready, bookOf}
+use Rattle.six_answers.specs.laws.Ready.{Ready, bookOf}
 
 abbrev pub lotsOnly : Total → ℕ
 lotsOnly t = t .lots

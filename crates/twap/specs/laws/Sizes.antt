@@ -19,19 +19,22 @@ use Rattle.sheet.specs.laws.Accepted.{accepted-sound}
 use Rattle.indicator.specs.declared.Side.{Side}
 use Rattle.indicator.specs.declared.Side.the-variants.{Absent, At}
 use Rattle.indicator.specs.declared.Indicator.{Indicator}
-use Rattle.indicator.specs.Indicator.{centsOf, empty, sideOf, elseAt, below, belowOffer, valueBy, afterClose, afterTrade, afterQuote, taken, stamp, afterFrom, after, centsAt, sumFrom, twapSum}
+use Rattle.indicator.specs.Indicator.{centsOf, empty, sideOf, elseAt, below, belowOffer, valueBy, valueOf, afterClose, afterTrade, afterQuote, taken, stamp, afterFrom, after, centsAt, sumFrom, twapSum}
 use Rattle.indicator.specs.laws.Sums.{sum-size}
 use Rattle.twap.specs.Span.{Accepted}
 
 -- a price in its range, or none
-abbrev Small : Side → Type 0
+abbrev pub Small : Side → Type 0
 Small r = natAbs (centsOf r) ≤ 99999999
 
 -- a state whose prices are
-record SmallState (s : Indicator) : Type 0 where
-  reference : Small (s .reference)
-  bid : Small (s .bid)
-  offer : Small (s .offer)
+pub record SmallState (s : Indicator) : Type 0 where
+  pub reference : Small (s .reference)
+  pub bid : Small (s .bid)
+  pub offer : Small (s .offer)
+
+pub small-empty : SmallState empty
+small-empty = record { reference = omega arith; bid = omega arith; offer = omega arith }
 
 -- of two, whichever a test picks
 small-pick : (b : Bool) (x y : Indicator) → SmallState x → SmallState y → SmallState (cond b x y)
@@ -49,7 +52,7 @@ small-else Absent p h k = k
 small-else (At q) p h k = h
 
 -- a field whose values are in their ranges keeps it so
-small-taken : (i : ℕ) (s : Indicator) (f : Field) → SmallState s → Sound alone f → SmallState (taken i s f)
+pub small-taken : (i : ℕ) (s : Indicator) (f : Field) → SmallState s → Sound alone f → SmallState (taken i s f)
 unfolding taken
 small-taken i s (Header metal marks form) h k = h
 small-taken i s (PreviousClose instrument price) h k =
@@ -78,18 +81,18 @@ small-offer : (p : Price) (o : Side) → natAbs (p .cents) ≤ 99999999 → Smal
 small-offer p Absent h k = h
 small-offer p (At o) h k = small-cond (below o p) o p k h
 
-small-value : (r b o : Side) → Small r → Small b → Small o → Small (valueBy r b o)
-small-value Absent b o h k l = h
-small-value (At p) Absent o h k l = small-offer p o h l
-small-value (At p) (At b) o h k l = small-cond (below p b) b (belowOffer p o) k (small-offer p o h l)
+small-by : (r b o : Side) → Small r → Small b → Small o → Small (valueBy r b o)
+small-by Absent b o h k l = h
+small-by (At p) Absent o h k l = small-offer p o h l
+small-by (At p) (At b) o h k l = small-cond (below p b) b (belowOffer p o) k (small-offer p o h l)
+
+pub small-value : (s : Indicator) → SmallState s → Small (valueOf s)
+small-value s h = small-by (s .reference) (s .bid) (s .offer) (h .reference) (h .bid) (h .offer)
 
 module _ (i : ℕ) (s : List ℕ) (a : Accepted s) where
   -- the indicator at a millisecond
   pub cents-size : (t : ℕ) → natAbs (centsAt i (fieldsOf s) t) ≤ 99999999
-  cents-size t =
-      let h = small-after i t empty (fieldsOf s) (record { reference = omega arith; bid = omega arith; offer = omega arith }) (accepted-sound s (a .day) (a .judged)) in
-      let x = after i t (fieldsOf s) in
-      small-value (x .reference) (x .bid) (x .offer) (h .reference) (h .bid) (h .offer)
+  cents-size t = small-value (after i t (fieldsOf s)) (small-after i t empty (fieldsOf s) small-empty (accepted-sound s (a .day) (a .judged)))
 
   -- k milliseconds of it
   pub part-size : (start k : ℕ) → natAbs (sumFrom (centsAt i (fieldsOf s)) start k) ≤ k * 99999999

@@ -1,23 +1,17 @@
 -- Laws of the sum: when there is one, and that no two answers of the code say the same. Assumes nothing.
-use Prim.Native.Nat.{ℕ}
+use Prim.Native.Nat.{ℕ, _<_}
 use mathlib.Core.Bool.{Bool, cond}
 use mathlib.Core.List.{List}
 use mathlib.Core.Path.{_≡_, refl, sym, ap, _∙_}
+use native.Mathlib.Omega.{arith}
+use lib.Seq.{ext-getD}
 use Rattle.promise.specs.laws.Once.{through}
 use Rattle.field.specs.declared.Field.{Field}
-use Rattle.sheet.specs.declared.Day.{Day}
-use Rattle.sheet.specs.declared.Judged.{Judged}
-use Rattle.sheet.specs.declared.Judged.the-variants as J
-use Rattle.sheet.specs.Judgement.{judgeSheet, judgedSays}
 use Rattle.indicator.specs.Indicator.{twapSum}
 use Rattle.indicator.specs.laws.Indicator.{toldBy, reference-told}
 use Rattle.twap.specs.declared.Summed.{Summed}
 use Rattle.twap.specs.declared.Summed.the-variants as S
-use Rattle.twap.specs.Span.{Span, spanOf, Accepted, spanSays, missing, sum}
-
--- as `judge_sheet` says it
-pub accepted-by : {s : List ℕ} {r : Judged} {day : Day} → judgedSays r ≡ judgeSheet s → r ≡ J.Accepted day → Accepted s
-accepted-by {day = day} e d = record { day = day; judged = sym e ∙ ap judgedSays d }
+use Rattle.twap.specs.Span.{Span, spanOf, spanSays, missing, sum, Sums}
 
 -- a reference is a previous close, or a trade by then
 pub span-told : (i start : ℕ) (fs : List Field) → spanOf i start fs ≡ cond (toldBy i start fs) (sum (twapSum i start fs)) missing
@@ -34,3 +28,8 @@ summed-back (S.Sum total) = refl
 
 pub span-once : {d : Span} {x y : Summed} → spanSays x ≡ d → spanSays y ≡ d → x ≡ y
 span-once p q = through spanSays summed-of summed-back p q
+
+-- and no two lists of them tell the same
+pub sums-once : {metal : ℕ} {fs : List Field} {x y : List Summed} → Sums metal fs x → Sums metal fs y → x ≡ y
+sums-once {metal} {fs} {x} {y} p q =
+    ext-getD S.Missing x y (p .long ∙ sym (q .long)) (λ i h. let on : i < 12 = omega (arith, p .long) in span-once (p .each i on) (q .each i on))
