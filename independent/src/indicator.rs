@@ -1,5 +1,5 @@
-//! The indicator and its sum over the 300,000 milliseconds of a window, taken
-//! twice: by walking every millisecond, and by the spans between records.
+//! The indicator, the spans of a window over which it stands, and its sum over the
+//! 300,000 milliseconds, taken twice: by walking every one, and span by span.
 
 use crate::field::{Quote, BID, OFFER};
 use crate::sheet::{Day, Record};
@@ -72,22 +72,84 @@ pub fn sum_by_walking(day: &Day, instrument: u8, start: u32) -> Option<i128> {
     Some(sum)
 }
 
-/// The same sum, taken as the indicator times the length of each span in which
-/// no record comes.
-pub fn sum_by_spans(day: &Day, instrument: u8, start: u32) -> Option<i128> {
-    let behind = start.saturating_add(WINDOW);
-    let mut indicator = Indicator::new(day.previous_close(instrument));
-    let mut from = start;
-    let mut sum = 0;
-    for record in &day.records {
-        if record.instrument() != instrument || record.time() >= behind {
-            continue;
-        }
-        if record.time() > from {
-            sum += indicator.value()? * i128::from(record.time() - from);
-            from = record.time();
-        }
-        indicator = indicator.after(record);
+/// A stretch of the window with no record of the instrument behind its first
+/// millisecond, and what stands over it.
+#[derive(Clone, Copy, Debug, PartialEq, Eq)]
+pub struct Span {
+    pub from: u32,
+    /// The first millisecond behind it.
+    pub to: u32,
+    pub state: Indicator,
+}
+
+impl Span {
+    pub fn milliseconds(&self) -> u32 {
+        self.to - self.from
     }
-    Some(sum + indicator.value()? * i128::from(behind - from))
+
+    /// The indicator over the span; none where there is no reference yet.
+    pub fn indicator(&self) -> Option<i128> {
+        self.state.value()
+    }
+
+    /// The indicator times the length.
+    pub fn product(&self) -> Option<i128> {
+        Some(self.indicator()? * i128::from(self.milliseconds()))
+    }
+}
+
+/// The spans of a window in order: what is left of the day's records, and where
+/// and with what the next span begins.
+struct Spans<'a> {
+    records: &'a [Record],
+    instrument: u8,
+    state: Indicator,
+    from: u32,
+    behind: u32,
+}
+
+impl Iterator for Spans<'_> {
+    type Item = Span;
+
+    /// Takes every record up to and at the span's first millisecond; the next one
+    /// of the instrument ends the span, or the window does.
+    fn next(&mut self) -> Option<Span> {
+        if self.from >= self.behind {
+            return None;
+        }
+        let to = loop {
+            let Some((record, rest)) = self.records.split_first() else {
+                break self.behind;
+            };
+            if record.instrument() == self.instrument {
+                if record.time() > self.from {
+                    break record.time().min(self.behind);
+                }
+                self.state = self.state.after(record);
+            }
+            self.records = rest;
+        };
+        let span = Span { from: self.from, to, state: self.state };
+        self.from = to;
+        Some(span)
+    }
+}
+
+/// The spans of an instrument in the window at a start. The first begins there; a
+/// new one begins at each later millisecond of the window with a record of the
+/// instrument, also where the indicator stays; the last ends behind the window.
+pub fn spans(day: &Day, instrument: u8, start: u32) -> impl Iterator<Item = Span> + '_ {
+    Spans {
+        records: &day.records,
+        instrument,
+        state: Indicator::new(day.previous_close(instrument)),
+        from: start,
+        behind: start.saturating_add(WINDOW),
+    }
+}
+
+/// The same sum by spans: price times length of each, or none where the first has
+/// no reference.
+pub fn sum_by_spans(day: &Day, instrument: u8, start: u32) -> Option<i128> {
+    spans(day, instrument, start).map(|span| span.product()).sum()
 }

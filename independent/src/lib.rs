@@ -6,7 +6,7 @@
 //! * [`tables`]    metals, windows, steps, instruments and contracts
 //! * [`field`]     one field: its values, reading it, writing it, walking
 //! * [`sheet`]     a whole day sheet: which refusal, or the day it holds
-//! * [`indicator`] the indicator and its sum over a window
+//! * [`indicator`] the indicator, its spans and its sum over a window
 //! * [`pricing`]   the six contracts
 //! * [`list`]      the closing list as text
 //! * [`tape`]      a sheet as lines of text, and back

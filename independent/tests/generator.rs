@@ -2,11 +2,11 @@
 //! as they were meant to be, every number and every kind of answer comes up.
 
 use independent::draft::{ended_sheet, header, long_header};
-use independent::field::{Field, Quote};
+use independent::field::{Field, Quote, Trade};
 use independent::generator::fault::sheet_with_fault;
 use independent::generator::sized::sized_sheet;
 use independent::generator::{accepted_sheet, damaged_sheet, random_sheet};
-use independent::indicator::sum_by_spans;
+use independent::indicator::{spans, sum_by_spans};
 use independent::pricing::{exact_price, named_contract, price_day_by_spans, step_of, Method};
 use independent::random::Random;
 use independent::sheet::Record;
@@ -222,6 +222,84 @@ fn g1_quotes_come_before_the_window_as_often_as_inside_it() {
     }
 }
 
+/// A contract's price where it goes by TWAP.
+fn twap_price(day: &Day, contract: usize) -> Option<i64> {
+    match price_day_by_spans(day)[contract] {
+        Answer::Priced { method: Method::Twap, price, .. } => Some(price),
+        _ => None,
+    }
+}
+
+/// The same day with the record at a place given another time.
+fn at_time(day: &Day, place: usize, time: u32) -> Day {
+    let mut changed = day.clone();
+    changed.records[place] = match changed.records[place] {
+        Record::Trade(trade) => Record::Trade(Trade { time, ..trade }),
+        Record::Quote(quote) => Record::Quote(Quote { time, ..quote }),
+    };
+    changed.records.sort_by_key(Record::time);
+    changed
+}
+
+/// The same day with the record at a place behind those of its millisecond.
+fn made_last(day: &Day, place: usize) -> Day {
+    let mut changed = day.clone();
+    let record = changed.records.remove(place);
+    let behind = changed.records.partition_point(|other| other.time() <= record.time());
+    changed.records.insert(behind, record);
+    changed
+}
+
+/// On how many days a contract's TWAP tells where its spans begin: it is another
+/// price with a record one millisecond off, at the window's start, at start + 1,
+/// at the last millisecond and right behind it; and with another order of the
+/// records of one millisecond. And on how many it has five spans or more.
+#[derive(Debug, Default)]
+struct Cuts {
+    start: usize,
+    second: usize,
+    last: usize,
+    behind: usize,
+    at_once: usize,
+    five_spans: usize,
+}
+
+impl Cuts {
+    fn count(&mut self, day: &Day, contract: usize) {
+        let Some(price) = twap_price(day, contract) else {
+            return;
+        };
+        let instrument = CONTRACTS[contract].twap_from;
+        let start = window_start(metal_row(day.metal).unwrap(), instrument);
+        let behind = start + WINDOW;
+        let tells = |changed: Day| twap_price(&changed, contract).is_some_and(|other| other != price);
+        let own = |place: &usize| day.records[*place].instrument() == instrument;
+        let places: Vec<usize> = (0..day.records.len()).filter(own).collect();
+        let moved = |from: u32, to: u32| {
+            let mut there = places.iter().filter(|place| day.records[**place].time() == from);
+            usize::from(there.any(|place| tells(at_time(day, *place, to))))
+        };
+        self.start += moved(start, start + 1);
+        self.second += moved(start + 1, start);
+        self.last += moved(behind - 1, behind);
+        self.behind += moved(behind, behind - 1);
+        let mut inside = places.iter().filter(|place| in_window(start, day.records[**place].time()));
+        self.at_once += usize::from(inside.any(|place| tells(made_last(day, *place))));
+        self.five_spans += usize::from(spans(day, instrument, start).count() >= 5);
+    }
+}
+
+#[test]
+fn k1_to_k4_twaps_tell_where_their_spans_begin() {
+    for (contract, row) in CONTRACTS.iter().enumerate() {
+        let mut cuts = Cuts::default();
+        accepted_days(1_800).for_each(|day| cuts.count(&day, contract));
+        let edges = [cuts.start, cuts.second, cuts.last, cuts.behind];
+        assert!(edges.iter().all(|count| *count >= 25), "{} {cuts:?}", row.name);
+        assert!(cuts.at_once >= 40 && cuts.five_spans >= 40, "{} {cuts:?}", row.name);
+    }
+}
+
 /// Lots of exactly 4 and 5 over more than one spread.
 #[test]
 fn split_lots_come_up() {
@@ -284,10 +362,10 @@ fn the_stream_stays_small_and_reads_back() {
 
 #[test]
 fn a_case_depends_on_its_seed_and_place_only() {
-    assert_eq!(cases(9, 700)[..600], cases(9, 600)[..]);
-    assert_ne!(cases(9, 900), cases(10, 900));
+    assert_eq!(cases(9, 1_200)[..1_100], cases(9, 1_100)[..]);
+    assert_ne!(cases(9, 1_100), cases(10, 1_100));
     let first = random_sheet(&mut Random::for_item(9, 0));
-    assert!(cases(9, 900).contains(&first));
+    assert!(cases(9, 1_100).contains(&first));
 }
 
 #[test]

@@ -27,7 +27,7 @@ fn rows() -> HashMap<String, Vec<String>> {
 
 /// Is this a label: a letter of the page and a number, or F-8?
 fn is_label(word: &str) -> bool {
-    let number = word.strip_prefix(['A', 'B', 'C', 'D', 'E', 'F', 'G', 'H', 'I', 'J', 'P', 'R']);
+    let number = word.strip_prefix(['A', 'B', 'C', 'D', 'E', 'F', 'G', 'H', 'I', 'J', 'K', 'P', 'R']);
     let number = number.map(|number| number.strip_prefix('-').unwrap_or(number));
     number.is_some_and(|number| !number.is_empty() && number.bytes().all(|byte| byte.is_ascii_digit()))
 }

@@ -213,7 +213,7 @@ fn j3_moved_sheets_price_the_same() {
 /// either header, so also where the sheet is already in the wanted form.
 #[test]
 fn j4_a_torn_sheet_has_its_own_refusal() {
-    let damaged = || (0..6_000).map(|item| damaged_sheet(&mut Random::for_item(23, item)));
+    let damaged = || (0..8_000).map(|item| damaged_sheet(&mut Random::for_item(23, item)));
     let begins = |sheet: &Vec<u8>, tag: u8| sheet.first() == Some(&tag);
     let old = counted(damaged().filter(|sheet| begins(sheet, 1)));
     let new = counted(damaged().filter(|sheet| begins(sheet, 6)));

@@ -33,7 +33,7 @@ fn names_are_told_apart() {
 }
 
 #[test]
-fn every_row_of_b_c_g_and_i_seen_from_outside_has_a_named_case() {
+fn every_row_of_b_c_g_i_and_k_seen_from_outside_has_a_named_case() {
     let cases = named_cases();
     let large = large_cases();
     let named = |id: &str| {
@@ -51,6 +51,9 @@ fn every_row_of_b_c_g_and_i_seen_from_outside_has_a_named_case() {
     }
     for row in [1, 2, 3, 4, 5, 6, 8, 9, 10] {
         assert!(named(&format!("I{row}")), "I{row}");
+    }
+    for row in 1..=12 {
+        assert!(named(&format!("K{row}")), "K{row}");
     }
 }
 

@@ -1,9 +1,9 @@
-//! The arithmetic against slower words: rounding against a search, the spans
-//! against the walk, the indicator and 13 against their own sentences.
+//! The arithmetic against slower words: rounding against a search, the answers by
+//! spans against the walk, the indicator and 13 against their own sentences.
 
 use independent::field::{BID, OFFER};
 use independent::generator::{accepted_sheet, sized::sized_sheet};
-use independent::indicator::{sum_by_spans, sum_by_walking};
+use independent::indicator::sum_by_walking;
 use independent::pricing::{named_contract, price_day_by_spans, round_to_step};
 use independent::random::Random;
 use independent::sheet::Record;
@@ -49,18 +49,6 @@ fn random_days(count: u64) -> impl Iterator<Item = Day> {
         };
         judge_sheet(&sheet).unwrap()
     })
-}
-
-#[test]
-fn spans_equal_the_walk_on_every_instrument() {
-    for day in random_days(400) {
-        let metal = metal_row(day.metal).unwrap();
-        for instrument in 0..12 {
-            let start = window_start(metal, instrument);
-            let walked = sum_by_walking(&day, instrument, start);
-            assert_eq!(sum_by_spans(&day, instrument, start), walked);
-        }
-    }
 }
 
 #[test]

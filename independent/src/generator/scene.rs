@@ -25,6 +25,8 @@ enum Activity {
     HalfTwap,
     /// A side that rests from before the window, or is taken away.
     Resting,
+    /// A TWAP that tells in which millisecond each of its records is.
+    Spans,
     /// Trades at the edges of both windows.
     Edges,
     /// No previous close, a trade at the window's first millisecond.
@@ -33,7 +35,7 @@ enum Activity {
     TradeBehindStart,
 }
 
-const ACTIVITIES: [Activity; 16] = [
+const ACTIVITIES: [Activity; 18] = [
     Activity::Nothing,
     Activity::Nothing,
     Activity::FiveLots,
@@ -47,6 +49,8 @@ const ACTIVITIES: [Activity; 16] = [
     Activity::HalfTwap,
     Activity::Resting,
     Activity::Resting,
+    Activity::Spans,
+    Activity::Spans,
     Activity::Edges,
     Activity::Edges,
     Activity::TradeAtStart,
@@ -213,6 +217,7 @@ impl<'a> Scene<'a> {
             Activity::HalfVwap => self.half_vwap(contract),
             Activity::HalfTwap => return self.half_twap(contract),
             Activity::Resting => return self.resting(contract),
+            Activity::Spans => return self.spans(contract),
             Activity::Edges => self.edges(contract),
             Activity::TradeAtStart => self.first_trade(contract, 0),
             Activity::TradeBehindStart => self.first_trade(contract, 1),
@@ -295,6 +300,36 @@ impl<'a> Scene<'a> {
         if self.random.chance(50) {
             let later = self.time_around(instrument).max(time);
             self.add_quote(later, instrument, 0, 0, 0);
+        }
+    }
+
+    /// Records of the TWAP instrument at the window's first two milliseconds, its
+    /// last and the first behind it, at a few on end and before the window, up to
+    /// two at each, with at most 4 lots. What is 150,000 steps away shows for a
+    /// millisecond too.
+    fn spans(&mut self, contract: usize) {
+        let instrument = CONTRACTS[contract].twap_from;
+        let start = window_start(self.metal, instrument);
+        let behind = start + WINDOW;
+        let (low, step) = self.stepped_price(instrument);
+        self.previous_closes[usize::from(instrument)] = Some(low);
+        let mut times = vec![(start, true), (start + 1, false), (behind - 1, true), (behind, true)];
+        let first = self.time_inside(instrument);
+        let on_end = self.random.below(6) as u32;
+        times.extend((0..on_end).map(|after| (first + after, after % 2 == 0)));
+        times.extend([true, false, false].map(|far| (self.time_before(instrument), far)));
+        let mut lots = 4;
+        for (time, far) in times {
+            for _ in 0..self.random.pick(&[0, 1, 1, 2]) {
+                let away = if far { 150_000 + self.random.price(-1, 1) } else { self.random.price(0, 9) };
+                if lots > 0 && self.random.chance(40) {
+                    lots -= 1;
+                    let sign = self.random.pick(&[-1, 1]);
+                    self.add_trade(time, instrument, low + sign * step * away, 1);
+                } else {
+                    self.add_better_side(time, instrument, low, step * away);
+                }
+            }
         }
     }
 

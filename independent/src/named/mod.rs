@@ -12,6 +12,7 @@ mod papers;
 mod pricing;
 mod resting;
 mod signs;
+mod spans;
 pub mod tapes;
 mod third;
 
@@ -142,6 +143,7 @@ pub fn named_cases() -> Vec<NamedCase> {
     cases.extend(resting::cases());
     cases.extend(barred::cases());
     cases.extend(third::cases());
+    cases.extend(spans::cases());
     cases.extend(papers::cut_nickel_sheets());
     cases.extend(at_the_lists_limit());
     cases
