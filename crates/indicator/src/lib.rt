@@ -61,17 +61,18 @@ fn below_offer(reference: Price, offer: Side) -> Price
     }
 }
 
-// A bid above the reference, an offer below it, otherwise the reference.
+// A bid above the reference, an offer below it, otherwise the reference. The offer is looked at first, so that no branch asks for the bid.
 fn inside_book(reference: Price, bid: Side, offer: Side) -> Price
     ensures { λ r. ⌜ r ≡ insideBook reference bid offer ⌝ }
 {
+    let under = below_offer(reference, offer);
     match bid {
-        Side::Absent => below_offer(reference, offer),
+        Side::Absent => under,
         Side::At(b) => {
             if is_below(reference, b) {
                 return b;
             }
-            below_offer(reference, offer)
+            under
         }
     }
 }

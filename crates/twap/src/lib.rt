@@ -4,7 +4,7 @@ ghost use mathlib.Core.Path.{_≡_};
 ghost use Prim.Native.Nat.{_≤_, _*_};
 ghost use lib.IntN.{natAbs};
 ghost use lib.ListN.{length};
-ghost use Rattle.field.specs.Layout.{fieldOf};
+ghost use Rattle.field.specs.Layout.{sizeOf, fieldOf};
 ghost use Rattle.field.specs.Reading.{bodyAt};
 ghost use Rattle.field.specs.laws.Field.{Headed};
 ghost use Rattle.market.specs.Market.{startOf};
@@ -176,7 +176,8 @@ fn line_with(line: Line, instrument: u8, start: u32, field: Field) -> Line
     let since = line.since;
     let to = cut_at(since, start + WINDOW, stamp_of(field));
     let before = line.total;
-    let total = plus(before, state.value(), to - since);
+    let length = to - since;
+    let total = plus(before, state.value(), length);
     let told = line.told || tells_by(start, field);
     Line {
         state: next,
@@ -207,13 +208,26 @@ fn new_lines(row: Metal) -> [Line; 12]
     lines
 }
 
+// How many bytes a tag's field has. Those of trades and quotes stand in branches of their own, so that no place waits for the table.
+fn bytes_of(tag: u8) -> usize
+    ensures { λ r. ⌜ r ≡ sizeOf tag ⌝ }
+{
+    if tag == layout::TRADE {
+        return 14;
+    }
+    if tag == layout::QUOTE {
+        return 17;
+    }
+    size_of(tag)
+}
+
 // The field whose head and body are known to stand at a place. Trades and quotes have branches of their own, since nearly all fields are.
 fn field_here(sheet: &[u8], at: usize, tag: u8) -> Field
     requires { ⌜ Headed (now sheet) at tag ⌝ }
     ensures { λ r. ⌜ r ≡ fieldOf tag (bodyAt (now (sheet .entry)) at tag) ⌝ }
 {
     let start = at + 3;
-    let next = at + size_of(tag);
+    let next = at + bytes_of(tag);
     if tag == layout::TRADE {
         return trade_of(&sheet[start..next]);
     }
@@ -239,7 +253,7 @@ fn lines_of(sheet: &[u8], metal: u8) -> [Line; 12]
         if i < 12 {
             lines[i] = line_with(lines[i], instrument, start_in(row, instrument), field);
         }
-        at = at + size_of(tag);
+        at = at + bytes_of(tag);
     }
     lines
 }

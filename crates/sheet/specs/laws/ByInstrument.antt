@@ -3,7 +3,7 @@
 --     Filled               fields stand one after the other up to the sheet's end, and their values are in their ranges
 --     Kept                 at each instrument's place is what is made of the fields;  kept-none, kept-one    with a field more
 --     Passing              at a place of the sheet: kept of the fields before it, and fields stand from there to the end
---     here-..              the field that stands at the place, by its tag
+--     here-..              the field that stands at the place, by its tag;  size-..    the bytes of a trade and of a quote
 --     pass-..              the pass begins, goes on behind a field, and ends
 -- Assumes nothing.
 use Prim.Native.Nat.{ℕ, _+_, _≤_, _<_}
@@ -75,6 +75,13 @@ module _ (s : List ℕ) (at : ℕ) (h : Here s at) {tag : ℕ} (k : tag ≡ getD
 
   pub here-is : h .field ≡ fieldOf tag (bodyAt s at tag)
   here-is = sym (shape .values) ∙ ap (λ (x : ℕ). fieldOf x (bodyAt s at x)) (sym k)
+
+-- the bytes of a trade and of a quote
+pub size-three : {tag : ℕ} → tag ≡ 3 → 14 ≡ sizeOf tag
+size-three e = rw e refl
+
+pub size-four : {tag : ℕ} → tag ≡ 4 → 17 ≡ sizeOf tag
+size-four e = rw e refl
 
 -- ---- what is made of the fields of each instrument
 

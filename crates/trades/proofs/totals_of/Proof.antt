@@ -1,7 +1,8 @@
 -- `trades::totals_of` meets its contract: at each place the totals are those of the fields before it. Assumes nothing.
 use borrow.Author.Needs.{needs}
 use Rattle.sheet.specs.laws.Walk.{left}
-use Rattle.trades.specs.laws.Pass.{Passing, pass-start, pass-done, pass-small, pass-three, pass-inside, pass-fits, pass-sound, pass-trade, pass-nothing, pass-other, counted-on, size-three, size-four}
+use Rattle.sheet.specs.laws.ByInstrument.{size-three, size-four}
+use Rattle.trades.specs.laws.Pass.{Passing, pass-start, pass-done, pass-small, pass-three, pass-inside, pass-fits, pass-sound, pass-trade, pass-nothing, pass-other, counted-on}
 use Rattle.trades.proofs.totals_of.Statement.{statement}
 use Rattle.trades.proofs.totals_of.Tie as tie
 

@@ -30,7 +30,7 @@ use Rattle.sheet.specs.declared.Judged.the-variants as J
 use Rattle.sheet.specs.Fields.{fieldsOf}
 use Rattle.sheet.specs.Judgement.{accepts, judgeSheet, judgedSays}
 use Rattle.sheet.specs.laws.Accepted.{accepted-small}
-use Rattle.sheet.specs.laws.ByInstrument.{Filled, accepted-filled, Here, here-headed, here-inside, here-is, Kept, kept-none, kept-one, pass-first, pass-last, pass-sounds, pass-few, pass-here, pass-right, pass-next}
+use Rattle.sheet.specs.laws.ByInstrument.{Filled, accepted-filled, Here, here-headed, here-inside, here-is, size-three, Kept, kept-none, kept-one, pass-first, pass-last, pass-sounds, pass-few, pass-here, pass-right, pass-next}
 use Rattle.sheet.specs.laws.ByInstrument as pass
 use Rattle.trades.specs.declared.Total.{Total}
 use Rattle.trades.specs.declared.Counted.{Counted}
@@ -177,13 +177,6 @@ Passing metal s at ts = pass.Passing (totalOf metal) none s at ts
 
 pub pass-start : (metal : ℕ) (s : List ℕ) {ts : List Total} → Filled s → ts ≡ noTrades → Passing metal s 0 ts
 pass-start metal s f e = rw e (pass-first (totalOf metal) none s f (subst (Kept (totalOf metal) none []) (totals-none metal) (totals-kept metal [])))
-
--- the bytes of a trade and of a quote
-pub size-three : {tag : ℕ} → tag ≡ 3 → 14 ≡ sizeOf tag
-size-three e = rw e refl
-
-pub size-four : {tag : ℕ} → tag ≡ 4 → 17 ≡ sizeOf tag
-size-four e = rw e refl
 
 module _ (metal : ℕ) (s : List ℕ) (at : ℕ) (ts : List Total) (o : Passing metal s at ts) where
   -- behind the last field

@@ -11,8 +11,8 @@ use Rattle.twap.proofs.field_here.Tie as tie
 add-start : tie.Need-add-start
 add-start c = search needs
 
-size-of-requires : tie.Need-size-of-requires
-size-of-requires c κs = search needs
+bytes-of-requires : tie.Need-bytes-of-requires
+bytes-of-requires c κs = search needs
 
 add-next : tie.Need-add-next
 add-next c = search needs
@@ -30,7 +30,7 @@ trade-of-requires : tie.Need-trade-of-requires
 trade-of-requires c κs = search (ap lengthOf (c .before .if1 .taken), needs)
 
 returns : tie.Need-returns
-returns c = let i = c .before .before in let s = i .before .before .before in c .trade-of .ensures ∙ rw (i .before .size-of .ensures) (ap tradeOf (part-is (now (s .args .sheet)) (s .args .at) (s .args .tag)) ∙ field-three _ (i .if1 .taken))
+returns c = let i = c .before .before in let s = i .before .before .before in c .trade-of .ensures ∙ rw (i .before .bytes-of .ensures) (ap tradeOf (part-is (now (s .args .sheet)) (s .args .at) (s .args .tag)) ∙ field-three _ (i .if1 .taken))
 
 sub-quote-of : tie.Need-sub-quote-of
 sub-quote-of c = search needs
@@ -45,7 +45,7 @@ quote-of-requires : tie.Need-quote-of-requires
 quote-of-requires c κs = search (ap lengthOf (c .before .if2 .taken), needs)
 
 returns-2 : tie.Need-returns-2
-returns-2 c = let i = c .before .before in let s = i .before .before .before .before in c .quote-of .ensures ∙ rw (i .before .before .size-of .ensures) (ap quoteOf (part-is (now (s .args .sheet)) (s .args .at) (s .args .tag)) ∙ field-four _ (i .if2 .taken))
+returns-2 c = let i = c .before .before in let s = i .before .before .before .before in c .quote-of .ensures ∙ rw (i .before .before .bytes-of .ensures) (ap quoteOf (part-is (now (s .args .sheet)) (s .args .at) (s .args .tag)) ∙ field-four _ (i .if2 .taken))
 
 sub-field-of : tie.Need-sub-field-of
 sub-field-of c = search needs
@@ -60,14 +60,14 @@ field-of-requires : tie.Need-field-of-requires
 field-of-requires c κs = search needs
 
 returns-3 : tie.Need-returns-3
-returns-3 c = let i = c .before .before in let s = i .before .before .before .before in c .field-of .ensures ∙ rw (i .before .before .size-of .ensures) (ap (fieldOf (s .args .tag)) (part-is (now (s .args .sheet)) (s .args .at) (s .args .tag)))
+returns-3 c = let i = c .before .before in let s = i .before .before .before .before in c .field-of .ensures ∙ rw (i .before .before .bytes-of .ensures) (ap (fieldOf (s .args .tag)) (part-is (now (s .args .sheet)) (s .args .at) (s .args .tag)))
 
 pub field-here-spec : {M : Type 1} → statement M
 field-here-spec =
     tie.close
     (tie.spec
     add-start
-    size-of-requires
+    bytes-of-requires
     add-next
     sub-trade-of
     part-trade-of-start

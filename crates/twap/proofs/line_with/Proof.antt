@@ -18,18 +18,18 @@ stamp-of-requires c κs = search needs
 cut-at-requires : tie.Need-cut-at-requires
 cut-at-requires c κs = search needs
 
+-- the span ends within the window
+inside : (c : tie.After-cut-at) → let a = c .before .before .before .before .args in Inside (a .line .since) (a .start + 300000) (c .cut-at .result)
+inside c = let s = c .before .before .before .before in fair-cut (s .args .start) (s .args .line) (s .pre .0) _ (c .cut-at .ensures)
+
+sub-length : tie.Need-sub-length
+sub-length c = inside (c .before) .from
+
 value-requires : tie.Need-value-requires
 value-requires c κs = search needs
 
--- the span ends within the window
-inside : (c : tie.After-value) → let u = c .before .before in let a = u .before .before .before .before .args in Inside (a .line .since) (a .start + 300000) (u .cut-at .result)
-inside c = let u = c .before .before in let s = u .before .before .before .before in fair-cut (s .args .start) (s .args .line) (s .pre .0) _ (u .cut-at .ensures)
-
-sub-plus : tie.Need-sub-plus
-sub-plus c = inside c .from
-
 plus-requires : tie.Need-plus-requires
-plus-requires c κs = let s = c .before .before .before .before .before .before in (fair-total (s .args .start) (s .args .line) (s .pre .0), omega (arith, inside c .most, s .pre .0 .from))
+plus-requires c κs = let s = c .before .before .before .before .before .before in (fair-total (s .args .start) (s .args .line) (s .pre .0), omega (arith, inside (c .before .before) .most, s .pre .0 .from))
 
 tells-by-requires : tie.Need-tells-by-requires
 tells-by-requires c κs = search needs
@@ -56,8 +56,8 @@ line-with-spec =
     add-cut-at
     stamp-of-requires
     cut-at-requires
+    sub-length
     value-requires
-    sub-plus
     plus-requires
     tells-by-requires
     returns

@@ -55,8 +55,8 @@ mul-lines c = search passing
 array-set-from-lines : tie.Need-array-set-from-lines Inv-loop μ-loop
 array-set-from-lines c = search passing
 
-size-of-requires : tie.Need-size-of-requires Inv-loop μ-loop
-size-of-requires c κs = search passing
+bytes-of-requires : tie.Need-bytes-of-requires Inv-loop μ-loop
+bytes-of-requires c κs = search passing
 
 add-at : tie.Need-add-at Inv-loop μ-loop
 add-at c = search passing
@@ -70,8 +70,8 @@ loop-again c =
     let o = m .before .before .before .before .loop .inv in
     let row = m .before .before .before .before .before .before .metal-of .ensures in
     ⊎-elim
-    (λ w. rw (w .4) (pass-own _ _ _ _ o (omega arith) refl (m .before .field-here .ensures) (m .instrument-of .ensures) (c .size-of .ensures) (w .0 .taken) row (w .2 .ensures) (w .3 .ensures)))
-    (λ w. rw (w .1) (pass-none _ _ _ _ o (omega arith) refl (m .before .field-here .ensures) (m .instrument-of .ensures) (c .size-of .ensures) (w .0 .left)))
+    (λ w. rw (w .4) (pass-own _ _ _ _ o (omega arith) refl (m .before .field-here .ensures) (m .instrument-of .ensures) (c .bytes-of .ensures) (w .0 .taken) row (w .2 .ensures) (w .3 .ensures)))
+    (λ w. rw (w .1) (pass-none _ _ _ _ o (omega arith) refl (m .before .field-here .ensures) (m .instrument-of .ensures) (c .bytes-of .ensures) (w .0 .left)))
     (c .before .if1 .came)
 
 returns : tie.Need-returns Inv-loop μ-loop
@@ -96,7 +96,7 @@ lines-of-spec =
     line-with-requires
     mul-lines
     array-set-from-lines
-    size-of-requires
+    bytes-of-requires
     add-at
     loop-less
     loop-again
