@@ -13,14 +13,16 @@ TEXTS = {'trades': 'mostly trades', 'quotes': 'mostly quotes', 'widest': 'longes
 
 
 def numbers(name):
-    """By work, sheet and size: each side's nanoseconds or instructions."""
+    """By work, sheet and size: each side's nanoseconds or instructions, and from times the number of records."""
     found = {}
     with open(name, encoding='utf-8') as lines:
         for line in lines:
-            words = re.match(r'(judge|read|list|answers|to-sheet|to-tape|to-new|to-old) +(\w+) +(\d+) ', line)
+            words = re.match(r'(judge|read|list|answers|to-sheet|to-tape|to-new|to-old) +(\w+) +(\d+) (?: *(\d+) +\d+ )?', line)
             if words:
-                work, sheet, size = words.groups()
+                work, sheet, size, records = words.groups()
                 found[work, sheet, int(size)] = {side: float(number) for side, number in re.findall(r'([a-z]+) ([\d.]+) \(', line)}
+                if records:
+                    found[work, sheet, int(size)]['records'] = int(records)
     return found
 
 
@@ -63,6 +65,27 @@ def table(found, heads, cells):
     for work in dict.fromkeys(work for work, _, _ in found if work in WORKS):
         for sheet, name in SHEETS.items():
             print(f'| {work} | {name} | ' + ' | '.join(cells(work, sheet)) + ' |')
+    print()
+
+
+def more(found, sheet, size, records):
+    """What the answers of each side take more than its judging, a record."""
+    judging, answers = found.get(('judge', sheet, size)), found.get(('answers', sheet, size))
+    return ' / '.join(figure((answers[side] - judging[side]) / records) for side in SIDES) if judging and answers else '–'
+
+
+def record_table(times, counts):
+    """Markdown: a row for each sheet and size, with what the answers take more than judging."""
+    sides = ' / '.join(SIDES)
+    print('| Sheet | Bytes | Records | library judges | library answers | '
+          + f'answers less judging, ns a record ({sides}) | instructions a record ({sides}) |')
+    print('|---|' + '---:|' * 6)
+    for sheet, name in SHEETS.items():
+        for size in SIZES:
+            judging, answers = times['judge', sheet, size], times['answers', sheet, size]
+            each = [more(found, sheet, size, judging['records']) for found in [times, counts]]
+            print(f'| {name} | {size:,} | {judging["records"]:,} | {time(judging["library"])} | {time(answers["library"])} | '
+                  + ' | '.join(each) + ' |')
     print()
 
 
@@ -121,6 +144,7 @@ def main():
 
     table(times, [head for other in SIDES[1:] for head in by_size(f'library / {other}')], ratios)
     table(times, by_size('library') + counted(SIDES), own)
+    record_table(times, counts)
     text_table(times, counts)
     move_table(times, counts)
 

@@ -6,7 +6,7 @@
 #include <string.h>
 #include "bliskoru.h"
 
-enum { LIST = 512, SAMPLE = 64, TWAP = 2, ROOM = 1 << 14 };
+enum { LIST = 512, ROOM = 1 << 14 };
 
 uint8_t second_judge(const uint8_t *sheet, size_t len, size_t *at);
 uint8_t second_answers(const uint8_t *sheet, size_t len, uint64_t answers[18], size_t *at);
@@ -17,7 +17,7 @@ uint8_t second_sheet_to_tape(const uint8_t *sheet, size_t len, uint8_t *tape, si
 uint8_t second_to_new_header(const uint8_t *sheet, size_t len, uint8_t *out, size_t room, size_t *length, size_t *at);
 uint8_t second_to_old_header(const uint8_t *sheet, size_t len, uint8_t *out, size_t room, size_t *length, size_t *at);
 
-static unsigned long compared, accepted, priced, texts, moved;
+static unsigned long compared, accepted, texts, moved;
 
 static void differ(const char *what, long long library, long long second) {
     fprintf(stderr, "DIFFERENCE in %s: library %lld, independent %lld\n", what, library, second);
@@ -59,21 +59,11 @@ static void compare_fields(const uint8_t *sheet, size_t len) {
     }
 }
 
-/* A contract by TWAP takes the library 300,000 steps: of the sheets with one, only a share is priced, chosen by their bytes. */
-static int is_priced(const uint8_t *sheet, size_t len, const uint64_t rows[18]) {
-    uint32_t hash = 2166136261u, slow = 0;
-    for (size_t i = 0; i < len; i++) hash = (hash ^ sheet[i]) * 16777619u;
-    for (int i = 0; i < 18; i += 3) slow += rows[i] == TWAP;
-    return !slow || (hash >> 8) % (SAMPLE * slow) == 0;
-}
-
 static void compare_prices(const uint8_t *sheet, size_t len) {
     uint64_t a[18] = {0}, b[18] = {0};
     size_t at = 0, second = 0;
     uint8_t number = second_answers(sheet, len, b, &second);
     accepted += !number;
-    if (!is_priced(sheet, len, b)) return;
-    priced += !number;
     same("the answers' number", bliskoru_answers(sheet, len, a, &at), number);
     same("the answers' byte", at, second);
     for (int i = 0; i < 18; i++) same("an answer", a[i], b[i]);
@@ -117,8 +107,8 @@ static int compare_there_and_back(const struct turn *there, const struct turn *b
 }
 
 static void report(void) {
-    fprintf(stderr, "%lu sheets and texts compared, %lu sheets accepted, %lu of these priced, %lu moved to another header; %lu texts accepted\n",
-            compared, accepted, priced, moved, texts);
+    fprintf(stderr, "%lu sheets and texts compared, %lu sheets accepted and priced, %lu moved to another header; %lu texts accepted\n", compared,
+            accepted, moved, texts);
 }
 
 int LLVMFuzzerInitialize(int *count, char ***words) {

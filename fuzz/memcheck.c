@@ -7,9 +7,9 @@
 #include <string.h>
 #include "bliskoru.h"
 
-enum { LIMIT = 1048576, LIST = 512, PRICED_OF = 10 };
+enum { LIMIT = 1048576, LIST = 512 };
 
-static unsigned long calls, sheets, texts, priced, accepted;
+static unsigned long calls, sheets, texts;
 static uint64_t sum; /* of all that the calls told: printed, so that a byte that was never written is noticed */
 
 static void fail(const char *what) {
@@ -62,7 +62,6 @@ static void price(const uint8_t *sheet, size_t len) {
         sum += *at;
     calls++;
     list_into(sheet, len, LIST);
-    priced++;
     free(answers), free(at);
 }
 
@@ -116,16 +115,14 @@ static void moves(const uint8_t *sheet, size_t len) {
     there_and_back(bliskoru_to_old_header, bliskoru_to_new_header, sheet, len);
 }
 
-/* Judged, read at every place (a long sheet at a few), turned into text, moved to either header, and priced where that is quick, or where it is
-   this sheet's turn: a contract by TWAP visits 300,000 milliseconds, which takes valgrind a while. */
+/* Judged, priced, read at every place (a long sheet at a few), turned into text, and moved to either header. */
 static void everything(const uint8_t *bytes, size_t len) {
     uint8_t *sheet = copy(bytes, len);
     size_t *at = block(sizeof *at);
     uint8_t number = bliskoru_judge(sheet, len, at);
     sum += number ? *at : 0;
     calls++, sheets++;
-    if (number) price(sheet, len);
-    else if (accepted++ % PRICED_OF == 0) price(sheet, len);
+    price(sheet, len);
     size_t step = len < 2000 ? 1 : len / 500;
     for (size_t place = 0; place <= len + 3; place += step) read_at(sheet, len, place);
     read_at(sheet, len, SIZE_MAX), read_at(sheet, len, SIZE_MAX - 2);
@@ -197,7 +194,8 @@ static void longest(void) {
     free(sheet);
 }
 
-/* The longest sheet with a short header that can be moved, 1,048,575 bytes, and the longest there is, which cannot: 14 bytes a trade, 17 a quote. */
+/* The longest sheet with a short header that can be moved, 1,048,575 bytes, and the longest there is, which cannot: 14 bytes a trade, 17 a quote.
+   Both are accepted and priced. */
 static void longest_moves(void) {
     static const size_t trades[2] = {74890, 74884}, quotes[2] = {6, 11};
     for (int i = 0; i < 2; i++) {
@@ -209,7 +207,7 @@ static void longest_moves(void) {
         bliskoru_write_end(sheet, len, at, 1 + trades[i] + quotes[i], &at);
         calls += 2 + trades[i] + quotes[i];
         if (turn_in_room(bliskoru_to_new_header, sheet, at, len + 1) != (len < LIMIT ? len + 1 : 0)) fail("a long sheet's move");
-        moves(sheet, len);
+        price(sheet, len), moves(sheet, len);
         free(sheet);
     }
 }
@@ -225,8 +223,8 @@ static void longest_text(void) {
     free(tape);
 }
 
-/* A sheet with a long header and all contracts by VWAP, which is quick to price. Flipped to 1 or 2 its third value bars a trade. */
-static size_t quick_sheet(uint8_t *sheet, size_t room) {
+/* A sheet with a long header and all contracts by VWAP. Flipped to 1 or 2 its third value bars a trade. */
+static size_t long_headed(uint8_t *sheet, size_t room) {
     static const uint8_t spreads[5] = {1, 3, 5, 7, 11};
     size_t at = 0;
     bliskoru_write_long_header(sheet, room, at, 1, 0, 0, &at);
@@ -279,12 +277,12 @@ int main(int count, char **names) {
     around(names[2], as_text, bliskoru_tape_to_sheet);
 
     uint8_t made[200], old[200];
-    size_t len = quick_sheet(made, sizeof made), old_len = turn_into(bliskoru_to_old_header, made, len, old, sizeof old);
+    size_t len = long_headed(made, sizeof made), old_len = turn_into(bliskoru_to_old_header, made, len, old, sizeof old);
     cuts(everything, made, len), flips(everything, made, len);
     rooms(bliskoru_to_old_header, made, len), rooms(bliskoru_to_new_header, old, old_len);
-    uint8_t *quick = copy(made, len);
-    for (size_t room = 0; room <= LIST; room++) list_into(quick, len, room);
-    free(quick);
+    uint8_t *exact = copy(made, len);
+    for (size_t room = 0; room <= LIST; room++) list_into(exact, len, room);
+    free(exact);
 
     writers();
     longest();
@@ -292,7 +290,6 @@ int main(int count, char **names) {
     longest_text();
     stream(names[3], everything);
     stream(names[4], as_text);
-    printf("memcheck: %lu calls over %lu sheets, %lu of them given to list and answers, and %lu texts; sum %llu\n", calls, sheets, priced, texts,
-           (unsigned long long)sum);
+    printf("memcheck: %lu calls over %lu sheets and %lu texts; sum %llu\n", calls, sheets, texts, (unsigned long long)sum);
     return 0;
 }

@@ -3,6 +3,7 @@
 
 use bench::moves;
 use bench::same::{agree, agree_on_moves, agree_on_tape, compare};
+use bench::second::records;
 use bench::sheets::{sheet, KINDS, SIZES};
 use bench::tapes;
 use bench::work::{Way, Work, ALL, ON_MOVES, ON_TAPES};
@@ -43,11 +44,11 @@ fn least_times(work: &Work, sheet: &[u8]) -> (Vec<f64>, usize) {
     (least, rounds)
 }
 
-/// One line of times over what is given of a sheet or a text of so many bytes: each way's nanoseconds, and
-/// library / it.
-fn time(work: &Work, kind: &str, bytes: usize, given: &[u8]) {
+/// One line of times over what is given of a sheet or a text of so many bytes and records: each way's
+/// nanoseconds, and library / it.
+fn time(work: &Work, kind: &str, bytes: usize, records: usize, given: &[u8]) {
     let (times, rounds) = least_times(work, given);
-    print!("{:<8} {kind:<7} {bytes:>7} {rounds:>7}", work.name);
+    print!("{:<8} {kind:<7} {bytes:>7} {records:>7} {rounds:>7}", work.name);
     for (way, time) in work.ways.iter().zip(&times) {
         print!("  {} {time:.1} ({:.2})", way.side, times[0] / time);
     }
@@ -60,7 +61,7 @@ fn run(names: &[String]) -> Result<(), String> {
     if names.iter().any(|name| name == "compare") {
         return Ok(());
     }
-    println!("work     sheet   bytes    rounds  each way: ns (library / it)");
+    println!("work     sheet     bytes records  rounds  each way: ns (library / it)");
     let is_named = |work: &&Work| names.is_empty() || names.iter().any(|name| name == work.name);
     for work in ALL.iter().filter(is_named) {
         for kind in KINDS {
@@ -68,7 +69,7 @@ fn run(names: &[String]) -> Result<(), String> {
                 let sheet = sheet(kind, bytes);
                 assert_eq!(sheet.len(), bytes);
                 agree(&sheet)?;
-                time(work, kind.name(), bytes, &sheet);
+                time(work, kind.name(), bytes, records(&sheet), &sheet);
             }
         }
     }
@@ -80,7 +81,8 @@ fn run_on_tapes(work: &Work) -> Result<(), String> {
     for kind in tapes::KINDS {
         for tape in tapes::SIZES.map(|bytes| tapes::tape(kind, bytes)) {
             agree_on_tape(&tape)?;
-            time(work, kind.name(), tape.len(), &(work.given)(&tape));
+            let records = records(&tapes::sheet_of(&tape));
+            time(work, kind.name(), tape.len(), records, &(work.given)(&tape));
         }
     }
     Ok(())
@@ -90,7 +92,7 @@ fn run_on_moves(work: &Work) -> Result<(), String> {
     for kind in moves::KINDS {
         for sheet in moves::SIZES.map(|bytes| sheet(kind, bytes)) {
             agree_on_moves(&sheet)?;
-            time(work, kind.name(), sheet.len(), &(work.given)(&sheet));
+            time(work, kind.name(), sheet.len(), records(&sheet), &(work.given)(&sheet));
         }
     }
     Ok(())

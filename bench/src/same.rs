@@ -19,26 +19,19 @@ const ROOM: usize = 512;
 /// Fields are compared in sheets up to this length.
 const LONGEST_READ: usize = 4_096;
 
-/// One accepted sheet in so many is priced by the library too, which walks 300,000 milliseconds for a TWAP.
-const PRICED_BY_LIBRARY: usize = 40;
-
 /// How many sheets were compared.
 #[derive(Default)]
 pub struct Tally {
     judged: usize,
     read: usize,
-    priced: usize,
-    priced_by_library: usize,
+    accepted: usize,
 }
 
 impl Display for Tally {
     fn fmt(&self, f: &mut fmt::Formatter) -> fmt::Result {
-        let Tally { judged, read, priced, priced_by_library } = self;
-        write!(f, "{judged} sheets judged by all four, the fields of {read} read by all four; ")?;
-        write!(
-            f,
-            "{priced} accepted and priced by independent, plain and limit, {priced_by_library} by the library too"
-        )
+        let Tally { judged, read, accepted } = self;
+        write!(f, "{judged} sheets judged and priced by all four, {accepted} of them accepted, ")?;
+        write!(f, "the fields of {read} read by all four")
     }
 }
 
@@ -50,6 +43,7 @@ fn same<T: PartialEq + Debug>(what: &str, side: &str, given: T, wanted: T) -> Re
 }
 
 const SIDES: [(&str, &Functions); 3] = [("library", &LIBRARY), ("plain", &PLAIN), ("limit", &LIMIT)];
+const LISTERS: [(&str, &Lister); 2] = [("library", &LIBRARY_LIST), ("limit", &LIMIT_LIST)];
 
 /// The number and what is left in the place, which a good sheet leaves as it was.
 fn judged(side: &Functions, sheet: &[u8]) -> (u8, usize) {
@@ -94,48 +88,48 @@ fn look_at_fields(sheet: &[u8], item: usize) -> Result<(), String> {
     Ok(())
 }
 
-fn look_at_answers(name: &str, side: &Functions, sheet: &[u8]) -> Result<(), String> {
-    let (mut rows, mut at): (Rows, usize) = ([u64::MAX; 18], usize::MAX);
-    let number = side.answers_at(sheet, &mut rows, &mut at);
+fn look_at_answers(sheet: &[u8]) -> Result<(), String> {
     let wanted = match second::answers_by_spans(sheet) {
         Ok(rows) => (0, rows, usize::MAX),
         Err((number, byte)) => (number, [u64::MAX; 18], byte),
     };
-    same("answers", name, (number, rows, at), wanted)
-}
-
-/// The list in a room with bytes behind it, in one that it just fills, and in one a byte too short.
-fn look_at_list(name: &str, side: &Lister, sheet: &[u8], rooms: &[usize]) -> Result<(), String> {
-    let list = closing_list_by_spans(sheet);
-    for room in rooms.iter().map(|more| if *more == ROOM { ROOM } else { list.len() - 1 + more }) {
-        let mut out = [FILL; ROOM];
-        let mut wanted = [FILL; ROOM];
-        let length = if room < list.len() { 0 } else { list.len() };
-        wanted[..length].copy_from_slice(&list[..length]);
-        same("the list's length", name, side.list(sheet, &mut out[..room]), length)?;
-        same("the list", name, out.escape_ascii().to_string(), wanted.escape_ascii().to_string())?;
+    for (name, side) in SIDES {
+        let (mut rows, mut at): (Rows, usize) = ([u64::MAX; 18], usize::MAX);
+        let number = side.answers_at(sheet, &mut rows, &mut at);
+        same("answers", name, (number, rows, at), wanted)?;
     }
     Ok(())
 }
 
-/// All that the C programs say of a sheet, and of it what the library says within a short time.
+/// The list in a room with bytes behind it, in one that it just fills, and in one a byte too short.
+fn look_at_list(sheet: &[u8]) -> Result<(), String> {
+    let list = closing_list_by_spans(sheet);
+    for room in [ROOM, list.len(), list.len() - 1] {
+        let mut wanted = [FILL; ROOM];
+        let length = if room < list.len() { 0 } else { list.len() };
+        wanted[..length].copy_from_slice(&list[..length]);
+        for (name, side) in LISTERS {
+            let mut out = [FILL; ROOM];
+            same("the list's length", name, side.list(sheet, &mut out[..room]), length)?;
+            if out != wanted {
+                same("the list", name, out.escape_ascii().to_string(), wanted.escape_ascii().to_string())?;
+            }
+        }
+    }
+    Ok(())
+}
+
+/// All that the four sides say of a sheet.
 fn look(sheet: &[u8], tally: &mut Tally) -> Result<(), String> {
     let accepted = look_at_judgement(sheet)?;
     tally.judged += 1;
+    tally.accepted += usize::from(accepted);
     if sheet.len() <= LONGEST_READ {
         look_at_fields(sheet, tally.judged)?;
         tally.read += 1;
     }
-    look_at_answers("plain", &PLAIN, sheet)?;
-    look_at_answers("limit", &LIMIT, sheet)?;
-    look_at_list("limit", &LIMIT_LIST, sheet, &[ROOM, 1, 0])?;
-    tally.priced += usize::from(accepted);
-    if !accepted || tally.priced.is_multiple_of(PRICED_BY_LIBRARY) {
-        look_at_answers("library", &LIBRARY, sheet)?;
-        look_at_list("library", &LIBRARY_LIST, sheet, &[ROOM])?;
-        tally.priced_by_library += usize::from(accepted);
-    }
-    Ok(())
+    look_at_answers(sheet)?;
+    look_at_list(sheet)
 }
 
 fn shown(sheet: &[u8]) -> String {
@@ -148,11 +142,8 @@ pub fn agree(sheet: &[u8]) -> Result<(), String> {
     let look = || {
         look_at_judgement(sheet)?;
         look_at_fields(sheet, 0)?;
-        for (name, side) in SIDES {
-            look_at_answers(name, side, sheet)?;
-        }
-        look_at_list("library", &LIBRARY_LIST, sheet, &[ROOM])?;
-        look_at_list("limit", &LIMIT_LIST, sheet, &[ROOM])?;
+        look_at_answers(sheet)?;
+        look_at_list(sheet)?;
         same("answers by spans", "spans", second::answers_by_spans(sheet), second::answers_by_walking(sheet))
     };
     look().map_err(|difference| format!("{difference}\n{}", shown(sheet)))

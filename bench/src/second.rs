@@ -13,6 +13,11 @@ pub fn judge(sheet: &[u8]) -> (u8, usize) {
     }
 }
 
+/// How many trades and quotes an accepted sheet has.
+pub fn records(sheet: &[u8]) -> usize {
+    judge_sheet(sheet).map_or(0, |day| day.records.len())
+}
+
 fn values_of(field: Field) -> Values {
     match field {
         Field::Header(f) => match f.third {

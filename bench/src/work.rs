@@ -67,8 +67,8 @@ fn turn(side: &Turner, bytes: &[u8]) {
     });
 }
 
-/// The ways of each, the library first. `walking` is the independent program's TWAP by every millisecond, as the
-/// library takes it.
+/// The ways of each, the library first. `walking` is the independent program with each TWAP by every millisecond
+/// of its window; all others go from record to record.
 pub const ALL: [Work; 4] = [
     Work {
         name: "judge",

@@ -32,9 +32,9 @@ impl Plan {
         }
     }
 
-    /// Is the independent program to walk every millisecond of this one? It goes by spans of the others.
+    /// Is the independent program to walk every millisecond of this one? It goes by spans of the others. Two of twenty, one for each thread.
     pub fn is_walked(&self, item: u64) -> bool {
-        item % 10 < 2
+        item % 20 < 2
     }
 }
 
