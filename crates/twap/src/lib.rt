@@ -7,7 +7,6 @@ ghost use lib.ListN.{length};
 ghost use Rattle.field.specs.Layout.{sizeOf, fieldOf};
 ghost use Rattle.field.specs.Reading.{bodyAt};
 ghost use Rattle.field.specs.laws.Field.{Headed};
-ghost use Rattle.market.specs.Market.{startOf};
 ghost use Rattle.sheet.specs.Fields.{fieldsOf};
 ghost use Rattle.sheet.specs.laws.ByInstrument.{Filled, Kept};
 ghost use Rattle.indicator.specs.Indicator.{stamp};

@@ -13,8 +13,8 @@ use native.Mathlib.Nat.{le-refl, le-trans}
 use native.Mathlib.Decide.{decLt}
 use native.Mathlib.Omega.{arith}
 use borrow.Author.Tests.{le-leb, lt-leb}
-use lib.Dec.{leb, eqb}
-use lib.IntN.{ℤ, pos, _+ℤ_, _*ℤ_}
+use lib.Dec.{leb}
+use lib.IntN.{ℤ, _+ℤ_}
 use Rattle.field.specs.declared.Field.{Field}
 use Rattle.field.specs.declared.Field.the-variants.{Header, PreviousClose, Trade, Quote, End}
 use Rattle.market.specs.Market.{windowLength}

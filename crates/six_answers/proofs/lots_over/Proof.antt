@@ -1,6 +1,5 @@
 -- `six_answers::lots_over` meets its contract: the sum is that of the instruments before i. Assumes nothing.
-use Prim.Native.Nat.{_-_, _≤_}
-use mathlib.Core.Path.{_≡_}
+use Prim.Native.Nat.{_-_}
 use borrow.Author.Needs.{needs}
 use Rattle.six_answers.specs.laws.Asking.{Adding, adding-none, adding-more, adding-all, adding-fits}
 use Rattle.six_answers.proofs.lots_over.Statement.{statement}

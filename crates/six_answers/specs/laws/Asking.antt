@@ -14,7 +14,7 @@ use native.Mathlib.Omega.{arith}
 use borrow.Author.Tests.{lt-leb, le-leb, lt-ltb, le-ltb, leb-true}
 use lib.Dec.{leb, ltb}
 use lib.IntN.{ℤ}
-use lib.ListN.{length, getD, replicate}
+use lib.ListN.{getD, replicate}
 use mir.Syntax.{w64}
 use mir.Val.{Fits}
 use Rattle.field.specs.declared.Field.{Field}

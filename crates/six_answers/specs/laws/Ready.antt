@@ -1,13 +1,12 @@
 -- What the code prices from: an accepted sheet and the book of its header and totals; and that this is what the definitions price from.
 -- Assumes nothing.
-use Prim.Native.Nat.{ℕ, _≤_, _<_}
+use Prim.Native.Nat.{ℕ, _≤_}
 use mathlib.Core.Path.{_≡_}
 use mathlib.Core.Bool.{Bool, true, false, cond}
 use mathlib.Core.List.{List}
 use native.Mathlib.Omega.{arith}
 use lib.IntN.{ℤ}
 use lib.ListN.{length}
-use Rattle.market.specs.Market.{startOf}
 use Rattle.trades.specs.Trades.{totalOf, totalsOf}
 use Rattle.trades.specs.laws.Trades.{AllSmall, totals-at, totals-small}
 use Rattle.indicator.specs.Indicator.{hasReference, twapSum}

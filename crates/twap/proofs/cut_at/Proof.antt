@@ -1,6 +1,5 @@
 -- `twap::cut_at` meets its contract. Assumes nothing.
 use mathlib.Core.Path.{sym}
-use native.Mathlib.Omega.{arith}
 use Rattle.twap.specs.laws.Lines.{cut-early, cut-behind, cut-inside}
 use Rattle.twap.proofs.cut_at.Statement.{statement}
 use Rattle.twap.proofs.cut_at.Tie as tie

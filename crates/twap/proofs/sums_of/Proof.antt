@@ -1,6 +1,5 @@
 -- `twap::sums_of` meets its contract: the first i sums are told. Assumes nothing.
 use Prim.Native.Nat.{_-_, _≤_}
-use native.Mathlib.Omega.{arith}
 use borrow.Author.Needs.{needs}
 use Rattle.sheet.specs.Fields.{fieldsOf}
 use Rattle.twap.specs.laws.Pass.{Summing, sum-start, sum-done, sum-fair, sum-next, start-small, lines-ready}

@@ -6,7 +6,7 @@
 --     Fair, fair-line       the sizes that keep every total within 64 bits
 -- Assumes nothing.
 use Prim.Native.Nat.{ℕ, _+_, _-_, _*_, _≤_, _<_}
-use mathlib.Core.Path.{_≡_, refl, sym, ap, ap₂, _∙_}
+use mathlib.Core.Path.{_≡_, refl, sym, ap, _∙_}
 use mathlib.Core.Bool.{Bool, true, false, cond}
 use mathlib.Core.List.{List, [], _∷_, _++_}
 use native.Mathlib.Nat.{le-refl, mul-le-mul}
@@ -28,7 +28,7 @@ use Rattle.sheet.specs.Fields.{Each}
 use Rattle.indicator.specs.declared.Side.{Side}
 use Rattle.indicator.specs.declared.Side.the-variants.{Absent}
 use Rattle.indicator.specs.declared.Indicator.{Indicator}
-use Rattle.indicator.specs.Indicator.{centsOf, empty, valueOf, taken, stamp, twapSum}
+use Rattle.indicator.specs.Indicator.{centsOf, empty, valueOf, taken, stamp}
 use Rattle.indicator.specs.Spans.{PricedSpan, isOf, spansFrom, spansOf, productsOf}
 use Rattle.indicator.specs.laws.Indicator.{Rising, toldBy}
 use Rattle.indicator.specs.laws.Spans.{Meets, other, early, behind, cut, meets, spans-other, spans-early, spans-behind, spans-cut, by-spans}
