@@ -2,13 +2,12 @@
 //! spans against the walk, the indicator and 13 against their own sentences.
 
 use independent::field::{BID, OFFER};
-use independent::generator::{accepted_sheet, sized::sized_sheet};
+use independent::generator::accepted_days;
 use independent::indicator::sum_by_walking;
 use independent::pricing::{named_contract, price_day_by_spans, round_to_step};
-use independent::random::Random;
 use independent::sheet::Record;
 use independent::tables::{in_window, metal_row, window_start, CONTRACTS, WINDOW};
-use independent::{judge_sheet, price_day, Answer, Day};
+use independent::{price_day, Answer, Day};
 
 /// The greatest multiple m of u with 2Dm <= 2N + Du, by searching downwards.
 fn searched(sum: i128, divisor: i128, step: i128) -> i128 {
@@ -40,20 +39,9 @@ fn c14_negative_halves_go_up() {
     assert_eq!(round_to_step(-25, 1, 50), 0);
 }
 
-fn random_days(count: u64) -> impl Iterator<Item = Day> {
-    (0..count).map(|item| {
-        let mut random = Random::for_item(31, item);
-        let sheet = match item % 50 {
-            49 => sized_sheet(&mut random, 4_000 + item as usize).unwrap(),
-            _ => accepted_sheet(&mut random),
-        };
-        judge_sheet(&sheet).unwrap()
-    })
-}
-
 #[test]
 fn both_ways_give_the_same_answers() {
-    for day in random_days(600) {
+    for day in accepted_days(31, 600) {
         assert_eq!(price_day(&day), price_day_by_spans(&day));
     }
 }
@@ -81,7 +69,7 @@ fn words_of_the_indicator(day: &Day, instrument: u8, millisecond: u32) -> Option
 
 #[test]
 fn g1_the_sum_follows_the_indicators_words() {
-    for day in random_days(15) {
+    for day in accepted_days(31, 15) {
         let metal = metal_row(day.metal).unwrap();
         for row in &CONTRACTS {
             let start = window_start(metal, row.twap_from);
@@ -123,7 +111,7 @@ fn own_answers(day: &Day) -> impl Iterator<Item = (usize, Answer)> {
 
 #[test]
 fn c1_to_c4_refusals_and_lots_follow_their_words() {
-    for day in random_days(3_000) {
+    for day in accepted_days(31, 3_000) {
         let mut stopped = false;
         for (contract, answer) in own_answers(&day) {
             let (is_13, in_all) = words_of_13(&day, contract);
@@ -145,7 +133,7 @@ fn c1_to_c4_refusals_and_lots_follow_their_words() {
 #[test]
 fn i1_i9_the_named_contract_follows_its_words() {
     let mut counts = [0; 2];
-    for day in random_days(3_000) {
+    for day in accepted_days(31, 3_000) {
         let answers = price_day_by_spans(&day);
         if let Some(named) = named_contract(&day) {
             let refused = |answer: &Answer| matches!(answer, Answer::Refused { .. });
@@ -162,7 +150,7 @@ fn i1_i9_the_named_contract_follows_its_words() {
 /// With byte 0 in a long header every answer is that behind a short one.
 #[test]
 fn i8_byte_0_prices_as_no_byte() {
-    for mut day in random_days(300) {
+    for mut day in accepted_days(31, 300) {
         if named_contract(&day).is_none() {
             let answers = [None, Some(0)].map(|third| {
                 day.third = third;

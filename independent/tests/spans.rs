@@ -3,24 +3,12 @@
 //! RULES 7 say, and add up to the sum of the walk.
 
 use independent::field::{BID, OFFER};
-use independent::generator::{accepted_sheet, sized::sized_sheet};
+use independent::generator::accepted_days;
 use independent::indicator::{spans, sum_by_spans, sum_by_walking, Indicator, Span};
 use independent::named::{large_cases, named_cases, NamedCase};
-use independent::random::Random;
 use independent::sheet::Record;
 use independent::tables::{in_window, metal_row, window_start, WINDOW};
 use independent::{judge_sheet, Day};
-
-fn made_days(count: u64) -> impl Iterator<Item = Day> {
-    (0..count).map(|item| {
-        let mut random = Random::for_item(41, item);
-        let sheet = match item % 50 {
-            49 => sized_sheet(&mut random, 4_000 + item as usize).unwrap(),
-            _ => accepted_sheet(&mut random),
-        };
-        judge_sheet(&sheet).unwrap()
-    })
-}
 
 /// The accepted sheets among the named cases, the longest too.
 fn named_days() -> impl Iterator<Item = (String, Day)> {
@@ -105,7 +93,7 @@ fn compare(name: &str, day: &Day, instrument: u8) {
 
 #[test]
 fn made_days_are_cut_at_their_records() {
-    for day in made_days(1_500) {
+    for day in accepted_days(41, 1_500) {
         (0..12).for_each(|instrument| check("made", &day, instrument));
     }
 }
@@ -119,7 +107,7 @@ fn named_days_are_cut_at_their_records() {
 
 #[test]
 fn the_sums_of_made_days_agree() {
-    for day in made_days(400) {
+    for day in accepted_days(41, 400) {
         (0..12).for_each(|instrument| compare("made", &day, instrument));
     }
 }

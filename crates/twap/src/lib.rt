@@ -9,9 +9,8 @@ ghost use Rattle.field.specs.Reading.{bodyAt};
 ghost use Rattle.field.specs.laws.Field.{Headed};
 ghost use Rattle.sheet.specs.Fields.{fieldsOf};
 ghost use Rattle.sheet.specs.laws.ByInstrument.{Filled, Kept};
-ghost use Rattle.indicator.specs.Indicator.{stamp};
 ghost use Rattle.twap.specs.Span.{spanSays, Accepted, Sums};
-ghost use Rattle.twap.specs.laws.Lines.{instrumentOf, tells, cutAt, withSpan, newLine, newLines, lineWith, lineOf, lineSum, Fair};
+ghost use Rattle.twap.specs.laws.Lines.{stampOf, tells, cutAt, withSpan, newLine, newLines, lineWith, lineOf, lineSum, Fair};
 use field::Field;
 use field::layout;
 use field::layout::size_of;
@@ -37,6 +36,13 @@ pub enum Summed {
     Sum(Total),
 }
 
+// What a field is to its instrument besides its prices.
+pub struct Stamp {
+    pub instrument: u8,
+    pub time: u32,
+    pub refers: bool,
+}
+
 // An instrument's line: the indicator's state, whether it had a reference at the window's start, the millisecond at which its open span begins, and
 // the sum over the spans before that.
 pub struct Line {
@@ -46,97 +52,66 @@ pub struct Line {
     pub total: Total,
 }
 
-// The instrument that a field is of; a header and an end have 12, which is none.
-fn instrument_of(field: Field) -> u8
-    ensures { λ r. ⌜ r ≡ instrumentOf field ⌝ }
+// The instrument that a field is of, 12 for a header and an end, which is none; the millisecond from which it counts, a record's time, and 0 for any
+// other field, which counts all day; and whether it gives a reference then.
+fn stamp_of(field: Field) -> Stamp
+    ensures { λ r. ⌜ r ≡ stampOf field ⌝ }
 {
     match field {
         Field::Header {
             metal: _,
             marks: _,
             form: _,
-        } => 12,
+        } => Stamp {
+            instrument: 12,
+            time: 0,
+            refers: false,
+        },
         Field::PreviousClose {
             instrument,
             price: _,
-        } => instrument,
+        } => Stamp {
+            instrument,
+            time: 0,
+            refers: true,
+        },
         Field::Trade {
-            time: _,
+            time,
             instrument,
             price: _,
             lots: _,
-        } => instrument,
+        } => Stamp {
+            instrument,
+            time,
+            refers: true,
+        },
         Field::Quote {
-            time: _,
+            time,
             instrument,
             sides: _,
             bid: _,
             offer: _,
-        } => instrument,
-        Field::End { count: _ } => 12,
+        } => Stamp {
+            instrument,
+            time,
+            refers: false,
+        },
+        Field::End { count: _ } => Stamp {
+            instrument: 12,
+            time: 0,
+            refers: false,
+        },
     }
 }
 
-// The millisecond from which a field counts: a record's time; any other field counts all day.
-fn stamp_of(field: Field) -> u32
-    ensures { λ r. ⌜ r ≡ stamp field ⌝ }
+// Whether a field gives its instrument a reference by a start.
+fn tells_by(start: u32, stamp: Stamp) -> bool
+    ensures { λ r. ⌜ r ≡ tells start stamp ⌝ }
 {
-    match field {
-        Field::Header {
-            metal: _,
-            marks: _,
-            form: _,
-        } => 0,
-        Field::PreviousClose {
-            instrument: _,
-            price: _,
-        } => 0,
-        Field::Trade {
-            time,
-            instrument: _,
-            price: _,
-            lots: _,
-        } => time,
-        Field::Quote {
-            time,
-            instrument: _,
-            sides: _,
-            bid: _,
-            offer: _,
-        } => time,
-        Field::End { count: _ } => 0,
+    if stamp.refers {
+        return stamp.time <= start;
     }
-}
-
-// Whether a field of an instrument gives it a reference by a start: a previous close, or a trade by then.
-fn tells_by(start: u32, field: Field) -> bool
-    ensures { λ r. ⌜ r ≡ tells start field ⌝ }
-{
-    match field {
-        Field::Header {
-            metal: _,
-            marks: _,
-            form: _,
-        } => false,
-        Field::PreviousClose {
-            instrument: _,
-            price: _,
-        } => true,
-        Field::Trade {
-            time,
-            instrument: _,
-            price: _,
-            lots: _,
-        } => time <= start,
-        Field::Quote {
-            time: _,
-            instrument: _,
-            sides: _,
-            bid: _,
-            offer: _,
-        } => false,
-        Field::End { count: _ } => false,
-    }
+    false
 }
 
 // Where a span that begins at `since` ends for a record of this time: not before it began, and not behind the window.
@@ -166,18 +141,18 @@ fn plus(total: Total, side: Side, milliseconds: u32) -> Total
 }
 
 // The line of an instrument with one of its fields more.
-fn line_with(line: Line, instrument: u8, start: u32, field: Field) -> Line
-    requires { ⌜ Fair start line × (start ≤ 60900000) ⌝ }
-    ensures { λ r. ⌜ r ≡ lineWith instrument start line field ⌝ }
+fn line_with(line: Line, stamp: Stamp, start: u32, field: Field) -> Line
+    requires { ⌜ Fair start line × (start ≤ 60900000) × (stamp ≡ stampOf field) ⌝ }
+    ensures { λ r. ⌜ r ≡ lineWith (stamp .instrument) start line field ⌝ }
 {
     let state = line.state;
-    let next = take_field(state, instrument, field);
+    let next = take_field(state, stamp.instrument, field);
     let since = line.since;
-    let to = cut_at(since, start + WINDOW, stamp_of(field));
+    let to = cut_at(since, start + WINDOW, stamp.time);
     let before = line.total;
     let length = to - since;
     let total = plus(before, state.value(), length);
-    let told = line.told || tells_by(start, field);
+    let told = line.told || tells_by(start, stamp);
     Line {
         state: next,
         told,
@@ -247,10 +222,11 @@ fn lines_of(sheet: &[u8], metal: u8) -> [Line; 12]
     while at < sheet.len() {
         let tag = sheet[at];
         let field = field_here(sheet, at, tag);
-        let instrument = instrument_of(field);
+        let stamp = stamp_of(field);
+        let instrument = stamp.instrument;
         let i = instrument as usize;
         if i < 12 {
-            lines[i] = line_with(lines[i], instrument, start_in(row, instrument), field);
+            lines[i] = line_with(lines[i], stamp, start_in(row, instrument), field);
         }
         at = at + bytes_of(tag);
     }

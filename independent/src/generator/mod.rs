@@ -15,6 +15,7 @@ use crate::generator::fault::sheet_with_fault;
 use crate::generator::scene::Scene;
 use crate::generator::sized::sized_sheet;
 use crate::random::Random;
+use crate::sheet::{judge_sheet, Day};
 
 /// The fields of a random accepted sheet, its end included.
 pub fn accepted_fields(random: &mut Random) -> Vec<Field> {
@@ -26,7 +27,19 @@ pub fn accepted_sheet(random: &mut Random) -> Vec<u8> {
     sheet_of(&accepted_fields(random))
 }
 
-/// The same with this byte in its header.
+/// So many days of such sheets from a seed, one in fifty a long one.
+pub fn accepted_days(seed: u64, count: u64) -> impl Iterator<Item = Day> {
+    (0..count).map(move |item| {
+        let mut random = Random::for_item(seed, item);
+        let sheet = match item % 50 {
+            49 => sized_sheet(&mut random, 4_000 + item as usize).expect("bytes that fields fill"),
+            _ => accepted_sheet(&mut random),
+        };
+        judge_sheet(&sheet).expect("an accepted sheet")
+    })
+}
+
+/// The fields of a random accepted sheet with this byte in its header.
 fn accepted_fields_with(random: &mut Random, third: Option<u8>) -> Vec<Field> {
     ended(&Scene::random_with(random, third).fields())
 }

@@ -12,15 +12,12 @@ take-field-requires c κs = search needs
 add-cut-at : tie.Need-add-cut-at
 add-cut-at c = search needs
 
-stamp-of-requires : tie.Need-stamp-of-requires
-stamp-of-requires c κs = search needs
-
 cut-at-requires : tie.Need-cut-at-requires
 cut-at-requires c κs = search needs
 
 -- the span ends within the window
-inside : (c : tie.After-cut-at) → let a = c .before .before .before .before .args in Inside (a .line .since) (a .start + 300000) (c .cut-at .result)
-inside c = let s = c .before .before .before .before in fair-cut (s .args .start) (s .args .line) (s .pre .0) _ (c .cut-at .ensures)
+inside : (c : tie.After-cut-at) → let a = c .before .before .before .args in Inside (a .line .since) (a .start + 300000) (c .cut-at .result)
+inside c = let s = c .before .before .before in fair-cut (s .args .start) (s .args .line) (s .pre .0) _ (c .cut-at .ensures)
 
 sub-length : tie.Need-sub-length
 sub-length c = inside (c .before) .from
@@ -29,7 +26,7 @@ value-requires : tie.Need-value-requires
 value-requires c κs = search needs
 
 plus-requires : tie.Need-plus-requires
-plus-requires c κs = let s = c .before .before .before .before .before .before in (fair-total (s .args .start) (s .args .line) (s .pre .0), omega (arith, inside (c .before .before) .most, s .pre .0 .from))
+plus-requires c κs = let s = c .before .before .before .before .before in (fair-total (s .args .start) (s .args .line) (s .pre .0), omega (arith, inside (c .before .before) .most, s .pre .0 .from))
 
 tells-by-requires : tie.Need-tells-by-requires
 tells-by-requires c κs = search needs
@@ -38,15 +35,17 @@ returns : tie.Need-returns
 returns c =
     let p = c .before in
     let u = p .before .before .before in
-    let a = u .before .before .before .before .args in
-    line-built (a .instrument) (a .start) (a .line) (a .field) _ (u .before .before .take-field .ensures) (u .before .stamp-of .ensures) (u .cut-at .ensures) (p .before .value .ensures) (p .plus .ensures) (told-before _ (c .if1 .taken))
+    let s = u .before .before .before in
+    let a = s .args in
+    line-built (a .stamp .instrument) (a .start) (a .line) (a .field) (s .pre .2) (u .before .take-field .ensures) (u .cut-at .ensures) (p .before .value .ensures) (p .plus .ensures) (told-before _ (c .if1 .taken))
 
 returns-2 : tie.Need-returns-2
 returns-2 c =
     let p = c .before .before in
     let u = p .before .before .before in
-    let a = u .before .before .before .before .args in
-    line-built (a .instrument) (a .start) (a .line) (a .field) _ (u .before .before .take-field .ensures) (u .before .stamp-of .ensures) (u .cut-at .ensures) (p .before .value .ensures) (p .plus .ensures) (told-now (c .before .if1 .left) (c .tells-by .ensures))
+    let s = u .before .before .before in
+    let a = s .args in
+    line-built (a .stamp .instrument) (a .start) (a .line) (a .field) (s .pre .2) (u .before .take-field .ensures) (u .cut-at .ensures) (p .before .value .ensures) (p .plus .ensures) (told-now (c .before .if1 .left) (c .tells-by .ensures))
 
 pub line-with-spec : {M : Type 1} → statement M
 line-with-spec =
@@ -54,7 +53,6 @@ line-with-spec =
     (tie.spec
     take-field-requires
     add-cut-at
-    stamp-of-requires
     cut-at-requires
     sub-length
     value-requires

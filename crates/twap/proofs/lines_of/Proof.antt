@@ -31,8 +31,8 @@ shared-slice-read-tag c = search passing
 field-here-requires : tie.Need-field-here-requires Inv-loop μ-loop
 field-here-requires c κs = search passing
 
-instrument-of-requires : tie.Need-instrument-of-requires Inv-loop μ-loop
-instrument-of-requires c κs = search passing
+stamp-of-requires : tie.Need-stamp-of-requires Inv-loop μ-loop
+stamp-of-requires c κs = search passing
 
 cast-i : tie.Need-cast-i Inv-loop μ-loop
 cast-i c = search passing
@@ -70,8 +70,8 @@ loop-again c =
     let o = m .before .before .before .before .loop .inv in
     let row = m .before .before .before .before .before .before .metal-of .ensures in
     ⊎-elim
-    (λ w. rw (w .4) (pass-own _ _ _ _ o (omega arith) refl (m .before .field-here .ensures) (m .instrument-of .ensures) (c .bytes-of .ensures) (w .0 .taken) row (w .2 .ensures) (w .3 .ensures)))
-    (λ w. rw (w .1) (pass-none _ _ _ _ o (omega arith) refl (m .before .field-here .ensures) (m .instrument-of .ensures) (c .bytes-of .ensures) (w .0 .left)))
+    (λ w. rw (w .4) (pass-own _ _ _ _ o (omega arith) refl (m .before .field-here .ensures) (m .stamp-of .ensures) (c .bytes-of .ensures) (w .0 .taken) row (w .2 .ensures) (w .3 .ensures)))
+    (λ w. rw (w .1) (pass-none _ _ _ _ o (omega arith) refl (m .before .field-here .ensures) (m .stamp-of .ensures) (c .bytes-of .ensures) (w .0 .left)))
     (c .before .if1 .came)
 
 returns : tie.Need-returns Inv-loop μ-loop
@@ -88,7 +88,7 @@ lines-of-spec =
     loop-holds
     shared-slice-read-tag
     field-here-requires
-    instrument-of-requires
+    stamp-of-requires
     cast-i
     mul-line-with
     array-copy-out-line-with

@@ -5,7 +5,7 @@
 --     line-is               what it comes to is the sum over the window's milliseconds, or missing
 --     Fair, fair-line       the sizes that keep every total within 64 bits
 -- Assumes nothing.
-use Prim.Native.Nat.{ℕ, _+_, _-_, _*_, _≤_, _<_}
+use Prim.Native.Nat.{ℕ, _+_, _-_, _*_, _≤_, _<_, zero-le}
 use mathlib.Core.Path.{_≡_, refl, sym, ap, _∙_}
 use mathlib.Core.Bool.{Bool, true, false, cond}
 use mathlib.Core.List.{List, [], _∷_, _++_}
@@ -33,6 +33,7 @@ use Rattle.indicator.specs.Spans.{PricedSpan, isOf, spansFrom, spansOf, product
 use Rattle.indicator.specs.laws.Indicator.{Rising, toldBy}
 use Rattle.indicator.specs.laws.Spans.{Meets, other, early, behind, cut, meets, spans-other, spans-early, spans-behind, spans-cut, by-spans}
 use Rattle.twap.specs.declared.Total.{Total}
+use Rattle.twap.specs.declared.Stamp.{Stamp}
 use Rattle.twap.specs.declared.Line.{Line}
 use Rattle.twap.specs.Span.{Span, missing, sum, spanOf}
 use Rattle.twap.specs.laws.Span.{span-told}
@@ -40,21 +41,27 @@ use Rattle.twap.specs.laws.Sizes.{SmallState, small-empty, small-taken, 
 
 -- ---- what a field does to a line
 
--- the instrument that a field is of; 12 is none
+-- the instrument that a field is of, 12 being none, the millisecond from which it counts, and whether it gives a reference then
+abbrev pub stampOf : Field → Stamp
+stampOf (Header metal marks form) = record { instrument = 12; time = 0; refers = false }
+stampOf (PreviousClose instrument price) = record { instrument = instrument; time = 0; refers = true }
+stampOf (Trade time instrument price lots) = record { instrument = instrument; time = time; refers = true }
+stampOf (Quote time instrument sides bid offer) = record { instrument = instrument; time = time; refers = false }
+stampOf (End count) = record { instrument = 12; time = 0; refers = false }
+
 abbrev pub instrumentOf : Field → ℕ
-instrumentOf (Header metal marks form) = 12
-instrumentOf (PreviousClose instrument price) = instrument
-instrumentOf (Trade time instrument price lots) = instrument
-instrumentOf (Quote time instrument sides bid offer) = instrument
-instrumentOf (End count) = 12
+instrumentOf f = stampOf f .instrument
+
+pub stamp-is : (f : Field) → stampOf f .time ≡ stamp f
+stamp-is (Header metal marks form) = refl
+stamp-is (PreviousClose instrument price) = refl
+stamp-is (Trade time instrument price lots) = refl
+stamp-is (Quote time instrument sides bid offer) = refl
+stamp-is (End count) = refl
 
 -- a previous close gives a reference, and so does a trade by the start
-abbrev pub tells : ℕ → Field → Bool
-tells start (Header metal marks form) = false
-tells start (PreviousClose instrument price) = true
-tells start (Trade time instrument price lots) = leb time start
-tells start (Quote time instrument sides bid offer) = false
-tells start (End count) = false
+abbrev pub tells : ℕ → Stamp → Bool
+tells start x = cond (x .refers) (leb (x .time) start) false
 
 -- where the open span ends for a record of a time: not before it began, and not behind the window
 unfoldable pub cutAt : ℕ → ℕ → ℕ → ℕ
@@ -74,7 +81,7 @@ lineWith i start l f =
     let to = cutAt (l .since) (start + windowLength) (stamp f) in
     record {
       state = taken i (l .state) f;
-      told = cond (l .told) true (tells start f);
+      told = cond (l .told) true (tells start (stampOf f));
       since = to;
       total = withSpan (l .total) (valueOf (l .state)) (to - l .since);
     }
@@ -161,7 +168,7 @@ add-nothing z v n e = rw e (ap (λ (x : ℤ). z +ℤ x) (zero-*ℤ v) ∙ +ℤ-i
 abbrev moved : ℕ → ℕ → Line → Field → ℕ → Line
 moved i start l f to = record {
   state = taken i (l .state) f;
-  told = cond (l .told) true (tells start f);
+  told = cond (l .told) true (tells start (stampOf f));
   since = to;
   total = withSpan (l .total) (valueOf (l .state)) (to - l .since);
 }
@@ -251,9 +258,9 @@ module _ (i start : ℕ) where
 
   -- a field of the instrument, or of another
   told-by : (b : Bool) (l : Line) (f : Field) (fs : List Field) → ((x : Line) → lineFrom i start x fs .told ≡ cond (x .told) true (toldBy i start fs))
-      → lineFrom i start (cond b (lineWith i start l f) l) fs .told ≡ cond (l .told) true (cond b (cond (tells start f) true (toldBy i start fs)) (toldBy i start fs))
+      → lineFrom i start (cond b (lineWith i start l f) l) fs .told ≡ cond (l .told) true (cond b (cond (tells start (stampOf f)) true (toldBy i start fs)) (toldBy i start fs))
   unfolding lineWith
-  told-by true l f fs next = next (lineWith i start l f) ∙ or-or (l .told) (tells start f) (toldBy i start fs)
+  told-by true l f fs next = next (lineWith i start l f) ∙ or-or (l .told) (tells start (stampOf f)) (toldBy i start fs)
   told-by false l f fs next = next l
 
   either : (b : Bool) (a c : Bool) → cond a true (cond b c c) ≡ cond a true c
@@ -264,7 +271,8 @@ module _ (i start : ℕ) where
   unfolding lineFrom lineAfter toldBy
   line-told [] l = or-false (l .told)
   line-told (Header metal marks form ∷ fs) l = line-told fs l
-  line-told (PreviousClose instrument price ∷ fs) l = told-by (eqb instrument i) l (PreviousClose instrument price) fs (line-told fs)
+  line-told (PreviousClose instrument price ∷ fs) l =
+      told-by (eqb instrument i) l (PreviousClose instrument price) fs (line-told fs) ∙ ap (λ (b : Bool). cond (l .told) true (cond (eqb instrument i) (cond b true (toldBy i start fs)) (toldBy i start fs))) (le-leb 0 start zero-le)
   line-told (Trade time instrument price lots ∷ fs) l = told-by (eqb instrument i) l (Trade time instrument price lots) fs (line-told fs)
   line-told (Quote time instrument sides bid offer ∷ fs) l = told-by (eqb instrument i) l (Quote time instrument sides bid offer) fs (line-told fs) ∙ either (eqb instrument i) (l .told) (toldBy i start fs)
   line-told (End count ∷ fs) l = line-told fs l
@@ -356,11 +364,10 @@ pub told-now : {a b x : Bool} → a ≡ false → x ≡ b → x ≡ cond a true 
 told-now e f = rw (e, f) refl
 
 -- the line as the code puts it together
-pub line-built : (i start : ℕ) (l : Line) (f : Field) {next : Indicator} (time : ℕ) {to : ℕ} {v : Side} {total : Total} {told : Bool} → next ≡ taken i (l .state) f → time ≡ stamp f → to ≡ cutAt (l .since) (start + 300000) time
-    → v ≡ valueOf (l .state) → total ≡ withSpan (l .total) v (to - l .since) → told ≡ cond (l .told) true (tells start f) → _≡_ {A = Line} (record { state = next; told = told; since = to; total = total }) (lineWith i start l f)
+pub line-built : (i start : ℕ) (l : Line) (f : Field) {next : Indicator} {x : Stamp} {to : ℕ} {v : Side} {total : Total} {told : Bool} → x ≡ stampOf f → next ≡ taken i (l .state) f → to ≡ cutAt (l .since) (start + 300000) (x .time)
+    → v ≡ valueOf (l .state) → total ≡ withSpan (l .total) v (to - l .since) → told ≡ cond (l .told) true (tells start x) → _≡_ {A = Line} (record { state = next; told = told; since = to; total = total }) (lineWith i start l f)
 unfolding lineWith
-line-built i start l f time d e c g h k =
-    rw (d, k, h, g, c, e, window-length) refl
+line-built i start l f e d c g h k = rw (d, k, h, g, c, e, stamp-is f, window-length) refl
 
 -- what it comes to, as the code tells it
 pub sum-told : (start : ℕ) (l : Line) {v : Side} {total : Total} → l .told ≡ true → v ≡ valueOf (l .state) → total ≡ withSpan (l .total) v (start + 300000 - l .since) → sum (total .cents) ≡ lineSum start l

@@ -35,11 +35,12 @@ use Rattle.indicator.specs.Indicator.{centsAt, twapSum}
 use Rattle.indicator.specs.Spans.{spansOf, productsOf}
 use Rattle.indicator.specs.laws.Indicator.{Rising}
 use Rattle.indicator.specs.laws.Spans.{Covers, spans-cover, by-spans}
+use Rattle.twap.specs.declared.Stamp.{Stamp}
 use Rattle.twap.specs.declared.Line.{Line}
 use Rattle.twap.specs.declared.Summed.{Summed}
 use Rattle.twap.specs.declared.Summed.the-variants as S
 use Rattle.twap.specs.Span.{Accepted, spanSays, spanOf, Sums}
-use Rattle.twap.specs.laws.Lines.{instrumentOf, lineWith, newLine, newLines, lineFrom, lineOf, lineStep, lineSum, line-goes, step-other, step-own, line-is, Fair, fair-line}
+use Rattle.twap.specs.laws.Lines.{stampOf, instrumentOf, lineWith, newLine, newLines, lineFrom, lineOf, lineStep, lineSum, line-goes, step-other, step-own, line-is, Fair, fair-line}
 
 -- ---- the fields of an accepted sheet rise
 
@@ -124,24 +125,28 @@ module _ (metal : ℕ) (s : List ℕ) (at : ℕ) (ls : List Line) (o : Passing m
     pub pass-fits : {n : ℕ} → n ≡ sizeOf tag → length s ≤ 1048576 → Fits w64 (at + n)
     pass-fits e h = record { fits = omega (arith, pass-inside e) }
 
-    module _ {f : Field} {j : ℕ} (d : f ≡ fieldOf tag (bodyAt s at tag)) (g : j ≡ instrumentOf f) {n : ℕ} (e : n ≡ sizeOf tag) where
+    module _ {f : Field} {x : Stamp} (d : f ≡ fieldOf tag (bodyAt s at tag)) (g : x ≡ stampOf f) {n : ℕ} (e : n ≡ sizeOf tag) where
       is : place .field ≡ f
       is = here-is s at place k ∙ sym d
 
-      -- behind a field of an instrument, and of none
-      pub pass-own : {row : Metal} {x : ℕ} {y : Line} → j < 12 → row ≡ metalOf metal → x ≡ startIn row j → y ≡ lineWith j x (getD ls j (newLine 0)) f → Passing metal s (at + n) (set ls j y)
-      pass-own {x = x} on w b c =
-          let start : x ≡ startOf metal j = b ∙ ap (λ (r : Metal). startIn r j) w ∙ start-in metal j in
-          pass-next (lineOf metal) (newLine 0) s at ls o l k e
-          (kept-one (lineOf metal) (newLine 0) (lineStep metal) (line-goes metal) (o .kept) (place .field) j on
-          (λ i h y q. step-other metal i y (place .field) h (λ p. q (g ∙ ap instrumentOf (sym is) ∙ p)))
-          (c ∙ rw (start, ← is) (sym (step-own metal j (getD ls j (newLine 0)) (place .field) on (ap instrumentOf is ∙ sym g)))))
+      on : instrumentOf (place .field) ≡ x .instrument
+      on = ap instrumentOf is ∙ ap (λ (y : Stamp). y .instrument) (sym g)
 
-      pub pass-none : 12 ≤ j → Passing metal s (at + n) ls
+      -- behind a field of an instrument, and of none
+      pub pass-own : {row : Metal} {start : ℕ} {y : Line} → x .instrument < 12 → row ≡ metalOf metal → start ≡ startIn row (x .instrument) → y ≡ lineWith (x .instrument) start (getD ls (x .instrument) (newLine 0)) f → Passing metal s (at + n) (set ls (x .instrument) y)
+      pass-own {start = start} h w b c =
+          let j = x .instrument in
+          let same : start ≡ startOf metal j = b ∙ ap (λ (r : Metal). startIn r j) w ∙ start-in metal j in
+          pass-next (lineOf metal) (newLine 0) s at ls o l k e
+          (kept-one (lineOf metal) (newLine 0) (lineStep metal) (line-goes metal) (o .kept) (place .field) j h
+          (λ i m y q. step-other metal i y (place .field) m (λ p. q (sym on ∙ p)))
+          (c ∙ rw (same, ← is) (sym (step-own metal j (getD ls j (newLine 0)) (place .field) h on))))
+
+      pub pass-none : 12 ≤ x .instrument → Passing metal s (at + n) ls
       pass-none h =
           pass-next (lineOf metal) (newLine 0) s at ls o l k e
           (kept-none (lineOf metal) (newLine 0) (lineStep metal) (line-goes metal) (o .kept) (place .field)
-          (λ i m y. step-other metal i y (place .field) m (λ p. omega (arith, g ∙ ap instrumentOf (sym is) ∙ p))))
+          (λ i m y. step-other metal i y (place .field) m (λ p. omega (arith, sym on ∙ p))))
 
 -- ---- the loop over the lines
 
