@@ -1,5 +1,5 @@
-// A field's values from the bytes of its body. Hosts do not call it: it asks that the tag is right and the body as long as the tag says, which
-// `field_reader` has tested.
+// A field's values from the bytes of its body. Hosts do not call it: it asks that the tag is right and the body as long as the tag says, which its
+// callers know.
 ghost use mathlib.Core.Path.{_≡_};
 ghost use mathlib.Core.Bool.{true};
 ghost use Prim.Native.Nat.{_+_, _≤_};
