@@ -33,7 +33,8 @@ fn header_of(body: &[u8]) -> Field
     }
 }
 
-fn previous_of(body: &[u8]) -> Field
+// The values of a previous close's body: a pass that knows the tag asks for no other.
+pub fn previous_of(body: &[u8]) -> Field
     requires { ⌜ length (now body) ≡ 5 ⌝ }
     ensures { λ r. ⌜ r ≡ previousOf (now (body .entry)) ⌝ }
 {
@@ -43,7 +44,7 @@ fn previous_of(body: &[u8]) -> Field
     }
 }
 
-// The values of a trade's body: a pass that knows the tag asks for no other.
+// The same of a trade's body.
 pub fn trade_of(body: &[u8]) -> Field
     requires { ⌜ length (now body) ≡ 11 ⌝ }
     ensures { λ r. ⌜ r ≡ tradeOf (now (body .entry)) ⌝ }

@@ -4,12 +4,13 @@ ghost use mathlib.Core.Path.{_≡_};
 ghost use Prim.Native.Nat.{_≤_, _*_};
 ghost use lib.IntN.{natAbs};
 ghost use lib.ListN.{length};
-ghost use Rattle.field.specs.Layout.{sizeOf, fieldOf};
+ghost use Rattle.field.specs.Layout.{sizeOf};
 ghost use Rattle.field.specs.Reading.{bodyAt};
 ghost use Rattle.field.specs.laws.Field.{Headed};
 ghost use Rattle.sheet.specs.Fields.{fieldsOf};
 ghost use Rattle.sheet.specs.laws.ByInstrument.{Filled, Kept};
 ghost use Rattle.twap.specs.Span.{spanSays, Accepted, Sums};
+ghost use Rattle.twap.specs.laws.Pass.{pricedOf};
 ghost use Rattle.twap.specs.laws.Lines.{stampOf, tells, cutAt, withSpan, newLine, newLines, lineWith, lineOf, lineSum, Fair};
 use field::Field;
 use field::layout;
@@ -21,7 +22,7 @@ use market::Metal;
 use market::WINDOW;
 use market::metal_of;
 use market::start_in;
-use raw_reader::field_of;
+use raw_reader::previous_of;
 use raw_reader::quote_of;
 use raw_reader::trade_of;
 
@@ -195,10 +196,11 @@ fn bytes_of(tag: u8) -> usize
     size_of(tag)
 }
 
-// The field whose head and body are known to stand at a place. Trades and quotes have branches of their own, since nearly all fields are.
+// The field of an instrument whose head and body are known to stand at a place: a trade, a quote or a previous close; an end for any other field, of
+// which nothing is kept.
 fn field_here(sheet: &[u8], at: usize, tag: u8) -> Field
     requires { ⌜ Headed (now sheet) at tag ⌝ }
-    ensures { λ r. ⌜ r ≡ fieldOf tag (bodyAt (now (sheet .entry)) at tag) ⌝ }
+    ensures { λ r. ⌜ r ≡ pricedOf tag (bodyAt (now (sheet .entry)) at tag) ⌝ }
 {
     let start = at + 3;
     let next = at + bytes_of(tag);
@@ -208,7 +210,10 @@ fn field_here(sheet: &[u8], at: usize, tag: u8) -> Field
     if tag == layout::QUOTE {
         return quote_of(&sheet[start..next]);
     }
-    field_of(tag, &sheet[start..next])
+    if tag == layout::PREVIOUS_CLOSE {
+        return previous_of(&sheet[start..next]);
+    }
+    Field::End { count: 0 }
 }
 
 // The twelve lines of a sheet that fields fill to its end.

@@ -1,16 +1,19 @@
 -- The pass over an accepted sheet that keeps twelve lines: its fields rise as the spans ask, and the places of the code are answered from what a
 -- field does to one line, by `sheet`'s pass by instruments.
 --     accepted-rising      the fields of an accepted sheet rise
+--     pricedOf, Priced     a field as the pass reads it: what it is, or of no instrument
 --     Passing, pass-..     the loop over the sheet's fields
 --     Summing, sum-..      the loop over the twelve lines
 --     accepted-cover, accepted-by-spans     the spans of an accepted sheet
 -- Assumes nothing.
 use Prim.Native.Nat.{ℕ, zero, suc, _+_, _≤_, _<_}
 use mathlib.Core.Path.{_≡_, refl, sym, ap, subst, subst⁻¹, _∙_}
+use mathlib.Core.Bool.{Bool, true, false, cond}
 use mathlib.Core.List.{List, [], _∷_}
 use native.Mathlib.Decide.{decLt}
 use native.Mathlib.Omega.{arith}
-use borrow.Author.Tests.{ne-eqb}
+use borrow.Author.Tests.{eqb-true, ne-eqb}
+use lib.Dec.{eqb}
 use lib.ListN.{length, getD, set, length-set, getD-replicate}
 use lib.Seq.{getD-set-same, getD-set-other}
 use mir.Syntax.{w64}
@@ -18,7 +21,7 @@ use mir.Val.{Fits}
 use Rattle.field.specs.declared.Form.{Form}
 use Rattle.field.specs.declared.Field.{Field}
 use Rattle.field.specs.declared.Field.the-variants.{Header, PreviousClose, Trade, Quote, End}
-use Rattle.field.specs.Layout.{tagOf, sizeOf, tradeOf, quoteOf, fieldOf}
+use Rattle.field.specs.Layout.{tagOf, sizeOf, headerOf, previousOf, tradeOf, quoteOf, endOf, longHeaderOf, fieldOf}
 use Rattle.field.specs.Reading.{bodyAt}
 use Rattle.field.specs.laws.Field.{Headed}
 use Rattle.admit.specs.laws.Admitting.{timeFrom, Later}
@@ -88,14 +91,66 @@ unfolding lineOf lineFrom startOf
 new-at metal zero h = refl
 new-at metal (suc i) h = getD-replicate 11 i (newLine (metalOf metal .spread)) (newLine 0) (omega arith) ∙ sym (rw (ne-eqb (suc i) 0 (λ e. omega arith)) refl)
 
--- a trade and a quote by their tags
-pub field-three : {tag : ℕ} (b : List ℕ) → tag ≡ 3 → tradeOf b ≡ fieldOf tag b
-unfolding fieldOf
-field-three b e = rw e refl
+-- ---- the field as the pass reads it
 
-pub field-four : {tag : ℕ} (b : List ℕ) → tag ≡ 4 → quoteOf b ≡ fieldOf tag b
-unfolding fieldOf
-field-four b e = rw e refl
+-- a trade, a quote or a previous close, by its tag; an end for any other, of which nothing is kept
+unfoldable pub pricedOf : ℕ → List ℕ → Field
+pricedOf tag b = cond (eqb tag 3) (tradeOf b) (cond (eqb tag 4) (quoteOf b) (cond (eqb tag 2) (previousOf b) (End 0)))
+
+-- it is the field that stands there, or neither is of an instrument
+pub data Priced (f g : Field) : Type 0 where
+  same : f ≡ g → Priced f g
+  none : instrumentOf f ≡ 12 → instrumentOf g ≡ 12 → Priced f g
+
+module _ (tag : ℕ) (b : List ℕ) where
+  field-by : (t : ℕ) → tag ≡ t → fieldOf t b ≡ fieldOf tag b
+  field-by t e = ap (λ (x : ℕ). fieldOf x b) (sym e)
+
+  -- a header or an end
+  other-none : (x y : Bool) → instrumentOf (cond x (headerOf b) (cond y (endOf b) (longHeaderOf b))) ≡ 12
+  other-none true y = refl
+  other-none false true = refl
+  other-none false false = refl
+
+  tag-other : eqb tag 2 ≡ false → eqb tag 3 ≡ false → eqb tag 4 ≡ false → instrumentOf (fieldOf tag b) ≡ 12
+  unfolding fieldOf
+  tag-other e f g = rw (e, f, g) (other-none (eqb tag 1) (eqb tag 5))
+
+  by-two : (x : Bool) → eqb tag 2 ≡ x → eqb tag 3 ≡ false → eqb tag 4 ≡ false → Priced (cond x (previousOf b) (End 0)) (fieldOf tag b)
+  unfolding fieldOf
+  by-two true e f g = same (field-by 2 (eqb-true tag 2 e))
+  by-two false e f g = none refl (tag-other e f g)
+
+  by-four : (x : Bool) → eqb tag 4 ≡ x → eqb tag 3 ≡ false → Priced (cond x (quoteOf b) (cond (eqb tag 2) (previousOf b) (End 0))) (fieldOf tag b)
+  unfolding fieldOf
+  by-four true e f = same (field-by 4 (eqb-true tag 4 e))
+  by-four false e f = by-two (eqb tag 2) refl f e
+
+  by-three : (x : Bool) → eqb tag 3 ≡ x → Priced (cond x (tradeOf b) (cond (eqb tag 4) (quoteOf b) (cond (eqb tag 2) (previousOf b) (End 0)))) (fieldOf tag b)
+  unfolding fieldOf
+  by-three true e = same (field-by 3 (eqb-true tag 3 e))
+  by-three false e = by-four (eqb tag 4) refl e
+
+  priced : Priced (pricedOf tag b) (fieldOf tag b)
+  unfolding pricedOf
+  priced = by-three (eqb tag 3) refl
+
+  -- as the code tests the tag
+  pub priced-three : tag ≡ 3 → tradeOf b ≡ pricedOf tag b
+  unfolding pricedOf
+  priced-three e = rw e refl
+
+  pub priced-four : tag ≡ 4 → quoteOf b ≡ pricedOf tag b
+  unfolding pricedOf
+  priced-four e = rw e refl
+
+  pub priced-two : tag ≡ 2 → previousOf b ≡ pricedOf tag b
+  unfolding pricedOf
+  priced-two e = rw e refl
+
+  pub priced-none : (tag ≡ 3 → ⊥) → (tag ≡ 4 → ⊥) → (tag ≡ 2 → ⊥) → End 0 ≡ pricedOf tag b
+  unfolding pricedOf
+  priced-none e f g = sym (rw (ne-eqb tag 3 e, ne-eqb tag 4 f, ne-eqb tag 2 g) refl)
 
 pub pass-start : (metal : ℕ) (s : List ℕ) {ls : List Line} {row : Metal} → Filled s → row ≡ metalOf metal → ls ≡ newLines row → Passing metal s 0 ls
 pass-start metal s f w e = rw (e, w) (pass-first (lineOf metal) (newLine 0) s f (record { long = refl; each = new-at metal }))
@@ -125,28 +180,34 @@ module _ (metal : ℕ) (s : List ℕ) (at : ℕ) (ls : List Line) (o : Passing m
     pub pass-fits : {n : ℕ} → n ≡ sizeOf tag → length s ≤ 1048576 → Fits w64 (at + n)
     pass-fits e h = record { fits = omega (arith, pass-inside e) }
 
-    module _ {f : Field} {x : Stamp} (d : f ≡ fieldOf tag (bodyAt s at tag)) (g : x ≡ stampOf f) {n : ℕ} (e : n ≡ sizeOf tag) where
-      is : place .field ≡ f
-      is = here-is s at place k ∙ sym d
-
-      on : instrumentOf (place .field) ≡ x .instrument
-      on = ap instrumentOf is ∙ ap (λ (y : Stamp). y .instrument) (sym g)
+    module _ {f : Field} {x : Stamp} (d : f ≡ pricedOf tag (bodyAt s at tag)) (g : x ≡ stampOf f) {n : ℕ} (e : n ≡ sizeOf tag) where
+      is : Priced f (place .field)
+      is = rw (d, here-is s at place k) (priced tag (bodyAt s at tag))
 
       -- behind a field of an instrument, and of none
-      pub pass-own : {row : Metal} {start : ℕ} {y : Line} → x .instrument < 12 → row ≡ metalOf metal → start ≡ startIn row (x .instrument) → y ≡ lineWith (x .instrument) start (getD ls (x .instrument) (newLine 0)) f → Passing metal s (at + n) (set ls (x .instrument) y)
-      pass-own {start = start} h w b c =
+      own-by : {row : Metal} {start : ℕ} {y : Line} → x .instrument < 12 → row ≡ metalOf metal → start ≡ startIn row (x .instrument) → y ≡ lineWith (x .instrument) start (getD ls (x .instrument) (newLine 0)) f → Priced f (place .field) → Passing metal s (at + n) (set ls (x .instrument) y)
+      own-by {start = start} h w b c (same p) =
           let j = x .instrument in
-          let same : start ≡ startOf metal j = b ∙ ap (λ (r : Metal). startIn r j) w ∙ start-in metal j in
+          let on : instrumentOf (place .field) ≡ j = ap instrumentOf (sym p) ∙ ap (λ (y : Stamp). y .instrument) (sym g) in
+          let from : start ≡ startOf metal j = b ∙ ap (λ (r : Metal). startIn r j) w ∙ start-in metal j in
           pass-next (lineOf metal) (newLine 0) s at ls o l k e
           (kept-one (lineOf metal) (newLine 0) (lineStep metal) (line-goes metal) (o .kept) (place .field) j h
-          (λ i m y q. step-other metal i y (place .field) m (λ p. q (sym on ∙ p)))
-          (c ∙ rw (same, ← is) (sym (step-own metal j (getD ls j (newLine 0)) (place .field) h on))))
+          (λ i m y q. step-other metal i y (place .field) m (λ r. q (sym on ∙ r)))
+          (c ∙ rw (from, p) (sym (step-own metal j (getD ls j (newLine 0)) (place .field) h on))))
+      own-by h w b c (none p q) = absurd (omega (arith, h, p, ap (λ (y : Stamp). y .instrument) g))
+
+      pub pass-own : {row : Metal} {start : ℕ} {y : Line} → x .instrument < 12 → row ≡ metalOf metal → start ≡ startIn row (x .instrument) → y ≡ lineWith (x .instrument) start (getD ls (x .instrument) (newLine 0)) f → Passing metal s (at + n) (set ls (x .instrument) y)
+      pass-own h w b c = own-by h w b c is
+
+      above : 12 ≤ x .instrument → Priced f (place .field) → 12 ≤ instrumentOf (place .field)
+      above h (same p) = omega (arith, h, ap instrumentOf p, ap (λ (y : Stamp). y .instrument) g)
+      above h (none p q) = omega (arith, q)
 
       pub pass-none : 12 ≤ x .instrument → Passing metal s (at + n) ls
       pass-none h =
           pass-next (lineOf metal) (newLine 0) s at ls o l k e
           (kept-none (lineOf metal) (newLine 0) (lineStep metal) (line-goes metal) (o .kept) (place .field)
-          (λ i m y. step-other metal i y (place .field) m (λ p. omega (arith, sym on ∙ p))))
+          (λ i m y. step-other metal i y (place .field) m (λ p. omega (arith, above h is, p))))
 
 -- ---- the loop over the lines
 
