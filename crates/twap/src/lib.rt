@@ -53,6 +53,16 @@ pub struct Line {
     pub total: Total,
 }
 
+fn stamp_at(instrument: u8, time: u32, refers: bool) -> Stamp
+    ensures { λ r. ⌜ r ≡ record { instrument = instrument; time = time; refers = refers } ⌝ }
+{
+    Stamp {
+        instrument,
+        time,
+        refers,
+    }
+}
+
 // The instrument that a field is of, 12 for a header and an end, which is none; the millisecond from which it counts, a record's time, and 0 for any
 // other field, which counts all day; and whether it gives a reference then.
 fn stamp_of(field: Field) -> Stamp
@@ -63,45 +73,25 @@ fn stamp_of(field: Field) -> Stamp
             metal: _,
             marks: _,
             form: _,
-        } => Stamp {
-            instrument: 12,
-            time: 0,
-            refers: false,
-        },
+        } => stamp_at(12, 0, false),
         Field::PreviousClose {
             instrument,
             price: _,
-        } => Stamp {
-            instrument,
-            time: 0,
-            refers: true,
-        },
+        } => stamp_at(instrument, 0, true),
         Field::Trade {
             time,
             instrument,
             price: _,
             lots: _,
-        } => Stamp {
-            instrument,
-            time,
-            refers: true,
-        },
+        } => stamp_at(instrument, time, true),
         Field::Quote {
             time,
             instrument,
             sides: _,
             bid: _,
             offer: _,
-        } => Stamp {
-            instrument,
-            time,
-            refers: false,
-        },
-        Field::End { count: _ } => Stamp {
-            instrument: 12,
-            time: 0,
-            refers: false,
-        },
+        } => stamp_at(instrument, time, false),
+        Field::End { count: _ } => stamp_at(12, 0, false),
     }
 }
 
