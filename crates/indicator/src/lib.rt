@@ -61,18 +61,17 @@ fn below_offer(reference: Price, offer: Side) -> Price
     }
 }
 
-// A bid above the reference, an offer below it, otherwise the reference. The offer is looked at first, so that no branch asks for the bid.
+// A bid above the reference, an offer below it, otherwise the reference.
 fn inside_book(reference: Price, bid: Side, offer: Side) -> Price
     ensures { λ r. ⌜ r ≡ insideBook reference bid offer ⌝ }
 {
-    let under = below_offer(reference, offer);
     match bid {
-        Side::Absent => under,
+        Side::Absent => below_offer(reference, offer),
         Side::At(b) => {
             if is_below(reference, b) {
                 return b;
             }
-            under
+            below_offer(reference, offer)
         }
     }
 }

@@ -4,11 +4,11 @@ use borrow.Author.Needs.{needs}
 use Rattle.indicator.proofs.inside_book.Statement.{statement}
 use Rattle.indicator.proofs.inside_book.Tie as tie
 
-below-offer-requires : tie.Need-below-offer-requires
-below-offer-requires c κs = search needs
-
 enum-told : tie.Need-enum-told
 enum-told c = search needs
+
+below-offer-requires : tie.Need-below-offer-requires
+below-offer-requires c κs = search needs
 
 enum-known-bid : tie.Need-enum-known-bid
 enum-known-bid c = search needs
@@ -19,11 +19,24 @@ is-below-requires c κs = search needs
 returns : tie.Need-returns
 returns c = simp (c .before .before .before .bid .given .1, sym (c .before .is-below .ensures) ∙ c .if1 .taken)
 
+below-offer-requires-2 : tie.Need-below-offer-requires-2
+below-offer-requires-2 c κs = search needs
+
 returns-2 : tie.Need-returns-2
-returns-2 c = c .before .before .below-offer .ensures ∙ simp (c .enum-told .given .1)
+returns-2 c = c .below-offer .ensures ∙ simp (c .before .enum-told .given .1)
 
 returns-3 : tie.Need-returns-3
-returns-3 c = c .before .before .before .before .before .below-offer .ensures ∙ simp (c .before .before .before .bid .given .1, sym (c .before .is-below .ensures) ∙ c .if1 .left)
+returns-3 c = c .below-offer2 .ensures ∙ simp (c .before .before .before .before .bid .given .1, sym (c .before .before .is-below .ensures) ∙ c .before .if1 .left)
 
 pub inside-book-spec : {M : Type 1} → statement M
-inside-book-spec = tie.close (tie.spec below-offer-requires enum-told enum-known-bid is-below-requires returns returns-2 returns-3)
+inside-book-spec =
+    tie.close
+    (tie.spec
+    enum-told
+    below-offer-requires
+    enum-known-bid
+    is-below-requires
+    returns
+    below-offer-requires-2
+    returns-2
+    returns-3)
