@@ -6,17 +6,18 @@
 #include "bliskoru.h"
 #include "sides.h"
 
-#define FUNCTIONS(prefix) prefix##_judge, prefix##_read, prefix##_closings
+#define FUNCTIONS(prefix) prefix##_judge, prefix##_read, prefix##_answers
 static const struct side {
     const char *name;
     uint8_t (*judge)(const uint8_t *, size_t, size_t *);
     uint8_t (*read)(const uint8_t *, size_t, size_t, int64_t *, size_t *);
-    uint8_t (*answers)(const uint8_t *, size_t, int64_t *, size_t *);
+    uint8_t (*answers)(const uint8_t *, size_t, uint64_t *, size_t *);
 } SIDES[] = {{"library", FUNCTIONS(bliskoru)}, {"plain", FUNCTIONS(plain)}, {"limit", FUNCTIONS(limit)}};
 
 static uint8_t sheet[1 << 20];
 static size_t len, at;
-static int64_t values[BLISKORU_VALUES], rows[BLISKORU_ANSWERS];
+static int64_t values[6];
+static uint64_t rows[18];
 
 /* The plugin counts what is executed from one to the other. */
 __attribute__((noipa)) void mark_begin(void) {}
@@ -49,8 +50,8 @@ int main(int count, char **words) {
     unsigned number = work(side);
     mark_end();
     printf("%u %zu", number, at);
-    for (int i = 0; i < BLISKORU_VALUES; i++) printf(" %lld", (long long)values[i]);
-    for (int i = 0; i < BLISKORU_ANSWERS; i++) printf(" %lld", (long long)rows[i]);
+    for (int i = 0; i < 6; i++) printf(" %lld", (long long)values[i]);
+    for (int i = 0; i < 18; i++) printf(" %llu", (unsigned long long)rows[i]);
     puts("");
     return 0;
 }

@@ -376,7 +376,7 @@ static int64_t indicated(void *given, int instrument, int *refused) {
 }
 
 /* The six rows of a judged day. */
-static void price_day(struct day *day, Bytes sheet, int64_t *rows) {
+static void price_day(struct day *day, Bytes sheet, uint64_t *rows) {
     struct walks walks;
     walks.day = day;
     walks.walked[SPREADS] = walks.walked[ANCHOR] = 0;
@@ -384,7 +384,7 @@ static void price_day(struct day *day, Bytes sheet, int64_t *rows) {
     price(sheet, day->totals[SPREADS], indicated, &walks, rows);
 }
 
-uint8_t limit_closings(const uint8_t *sheet, size_t len, int64_t *answers, size_t *at) {
+uint8_t limit_answers(const uint8_t *sheet, size_t len, uint64_t *answers, size_t *at) {
     struct day day;
     unsigned number = survey(sheet, len, &day, at);
     if (!number) price_day(&day, sheet, answers);
@@ -418,7 +418,7 @@ static uint8_t *put_number(uint8_t *out, uint32_t number, char behind) {
     return out + digits + 1;
 }
 
-static uint8_t *put_row(uint8_t *out, int k, const int64_t *row) {
+static uint8_t *put_row(uint8_t *out, int k, const uint64_t *row) {
     int priced = row[0] <= 2;
     out = put_text(out, &NAMES[k]);
     out = put_text(out, &METHODS[priced ? row[0] : 0]);
@@ -429,7 +429,7 @@ static uint8_t *put_row(uint8_t *out, int k, const int64_t *row) {
 /* The list into a room that holds every list; its end. */
 static uint8_t *put_list(Bytes sheet, size_t len, uint8_t *out) {
     struct day day;
-    int64_t rows[ROW * CONTRACTS];
+    uint64_t rows[3 * CONTRACTS];
     size_t at;
     if (UNLIKELY(len > LONGEST_LISTED)) return memcpy(out, "too long\n", 9), out + 9;
     unsigned number = survey(sheet, len, &day, &at);
@@ -437,7 +437,7 @@ static uint8_t *put_list(Bytes sheet, size_t len, uint8_t *out) {
     price_day(&day, sheet, rows);
     memcpy(out, METALS[sheet[3]].name, sizeof METALS->name);
     out += METALS[sheet[3]].length;
-    for (int k = 0; k < CONTRACTS; k++) out = put_row(out, k, rows + ROW * k);
+    for (int k = 0; k < CONTRACTS; k++) out = put_row(out, k, rows + 3 * k);
     return out;
 }
 

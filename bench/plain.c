@@ -119,7 +119,7 @@ static int64_t spans(void *sheet, int instrument, int *refused) {
     return sum + now * (until - since);
 }
 
-uint8_t plain_closings(const uint8_t *sheet, size_t len, int64_t *answers, size_t *at) {
+uint8_t plain_answers(const uint8_t *sheet, size_t len, uint64_t *answers, size_t *at) {
     struct total totals[INSTRUMENTS] = {{0, 0}};
     size_t place;
     unsigned number = pass(sheet, len, &place, totals);

@@ -17,9 +17,6 @@ typedef const uint8_t *Bytes;
 
 enum { LONGEST = 1048576, WINDOW = 300000, DAY = 86400000, CONTRACTS = 6, INSTRUMENTS = 12 };
 
-/* The numbers of a contract's row: method or refusal, close, lots, remainder, divisor. */
-enum { ROW = 5 };
-
 INLINE uint32_t big16(Bytes p) {
     uint16_t word;
     memcpy(&word, p, sizeof word);
@@ -86,9 +83,9 @@ INLINE int64_t turned(uint32_t less, int instrument, int64_t price) {
 }
 
 /* sum / parts to a step, halves up; 0 for what lies below 0, since neither is a close. */
-INLINE int64_t rounded(int64_t sum, int64_t parts, int64_t step) {
+INLINE uint64_t rounded(int64_t sum, int64_t parts, int64_t step) {
     int64_t above = 2 * sum + parts * step;
-    return above < 0 ? 0 : (int64_t)((uint64_t)above / (uint64_t)(2 * parts * step) * (uint64_t)step);
+    return above < 0 ? 0 : (uint64_t)above / (uint64_t)(2 * parts * step) * (uint64_t)step;
 }
 
 /* The sum of an instrument's indicator over the milliseconds of its window; `refused` where no price stands at the first. */
@@ -96,7 +93,7 @@ typedef int64_t Indicated(void *day, int instrument, int *refused);
 
 /* The row of a contract from the totals inside the windows; its number says whether the list goes on. */
 INLINE int contract(int k, int64_t step, const struct total *totals, uint32_t less, Indicated *indicated, void *day, int64_t *closes,
-                    int64_t *row) {
+                    uint64_t *row) {
     int method = 1, refused = 0, asked = ASKED[k];
     int64_t lots = 0, sum = 0, parts;
     for (int i = FIRST[k]; i < FIRST[k + 1]; i++) {
@@ -108,29 +105,29 @@ INLINE int contract(int k, int64_t step, const struct total *totals, uint32_t le
         method = 2, parts = WINDOW;
         sum = WINDOW * closes[OTHER[asked]] + turned(less, asked, indicated(day, asked, &refused));
     }
-    int64_t close = rounded(sum, parts, step);
-    if (refused || (uint64_t)close - 1 >= 99999999) method = refused ? 13 : 14, close = sum = parts = 0;
-    row[0] = method, row[1] = close, row[2] = lots, row[3] = close * parts - sum, row[4] = parts;
-    closes[k] = close;
+    uint64_t close = rounded(sum, parts, step);
+    if (refused || close - 1 >= 99999999) method = refused ? 13 : 14, close = 0;
+    row[0] = (uint64_t)method, row[1] = close, row[2] = (uint64_t)lots;
+    closes[k] = (int64_t)close;
     return method <= 2;
 }
 
 /* The row of 3M once more, for the contract that is 3M. */
-INLINE void take(int k, int64_t *closes, int64_t *rows) {
-    memcpy(rows + ROW * k, rows, ROW * sizeof *rows);
+INLINE void take(int k, int64_t *closes, uint64_t *rows) {
+    memcpy(rows + 3 * k, rows, 3 * sizeof *rows);
     closes[k] = closes[0];
 }
 
 /* The six rows of a judged sheet. */
-INLINE void price(Bytes sheet, const struct total *totals, Indicated *indicated, void *day, int64_t *rows) {
+INLINE void price(Bytes sheet, const struct total *totals, Indicated *indicated, void *day, uint64_t *rows) {
     int64_t closes[CONTRACTS + 1];
     uint32_t less = big16(sheet + 4) << 1 ^ TAKEN;
     closes[NOTHING] = 0;
     int k = 1, named = third(sheet).named, open = contract(0, METALS[sheet[3]].step, totals, less, indicated, day, closes, rows);
     for (; k < CONTRACTS && open; k++)
         if (k == named) take(k, closes, rows);
-        else open = contract(k, 1, totals, less, indicated, day, closes, rows + ROW * k);
-    for (; k < CONTRACTS; k++) memcpy(rows + ROW * k, (const int64_t[ROW]){15}, ROW * sizeof *rows);
+        else open = contract(k, 1, totals, less, indicated, day, closes, rows + 3 * k);
+    for (; k < CONTRACTS; k++) rows[3 * k] = 15, rows[3 * k + 1] = rows[3 * k + 2] = 0;
 }
 
 /* A sheet judged, and copied behind the header with this tag: 6 for the long one, 1 for the short one. */

@@ -13,16 +13,16 @@
 enum { STACK = 1 << 20, PAINT = 0xA5 };
 
 static uint8_t stack[STACK] __attribute__((aligned(64)));
-static uint8_t sheet[1048576], out[BLISKORU_ROUNDING_LIST_ROOM], tape[3 * sizeof sheet], again[sizeof sheet], moved[sizeof sheet];
+static uint8_t sheet[1048576], out[512], tape[3 * sizeof sheet], again[sizeof sheet], moved[sizeof sheet];
 static size_t len, tape_len, again_len, moved_len, place;
-static int64_t answers[BLISKORU_ANSWERS], values[BLISKORU_VALUES];
+static uint64_t answers[18];
+static int64_t values[6];
 static ucontext_t here, there;
 
 static void nothing(void) {}
 static void list(void) { bliskoru_list(sheet, len, out, sizeof out); }
-static void rounding(void) { bliskoru_rounding_list(sheet, len, out, sizeof out); }
 static void judge(void) { bliskoru_judge(sheet, len, &place); }
-static void price(void) { bliskoru_closings(sheet, len, answers, &place); }
+static void price(void) { bliskoru_answers(sheet, len, answers, &place); }
 static void read_all(void) {
     size_t at = 0;
     while (bliskoru_read(sheet, len, at, values, &at) == 0)
@@ -74,7 +74,7 @@ int main(int count, char **names) {
         char line[300];
         int n = snprintf(line, sizeof line, "%s, %zu bytes\n", names[i], len);
         if (write(1, line, n) != n) return 1;
-        say("list", list), say("rounding", rounding), say("judge", judge), say("answers", price), say("read", read_all), say("write", write_each);
+        say("list", list), say("judge", judge), say("answers", price), say("read", read_all), say("write", write_each);
         say("to-tape", to_tape), say("to-sheet", to_sheet), say("to-new", to_new), say("to-old", to_old);
     }
     return 0;

@@ -6,7 +6,7 @@ import sys
 SIZES = [130, 65536, 1048576]
 SHEETS = {'trades': 'mostly trades', 'quotes': 'mostly quotes', 'twap': 'all by TWAP', 'vwap': 'all by VWAP', 'third': '3M is M3'}
 SIDES = ['library', 'independent', 'plain', 'limit']
-WORKS = ['judge', 'read', 'list', 'rounding', 'answers']
+WORKS = ['judge', 'read', 'list', 'answers']
 ON_TEXTS = ['to-sheet', 'to-tape']
 MOVES = ['to-new', 'to-old']
 TEXTS = {'trades': 'mostly trades', 'quotes': 'mostly quotes', 'widest': 'longest lines'}
@@ -17,7 +17,7 @@ def numbers(name):
     found = {}
     with open(name, encoding='utf-8') as lines:
         for line in lines:
-            words = re.match(r'(judge|read|list|rounding|answers|to-sheet|to-tape|to-new|to-old) +(\w+) +(\d+) (?: *(\d+) +\d+ )?', line)
+            words = re.match(r'(judge|read|list|answers|to-sheet|to-tape|to-new|to-old) +(\w+) +(\d+) (?: *(\d+) +\d+ )?', line)
             if words:
                 work, sheet, size, records = words.groups()
                 found[work, sheet, int(size)] = {side: float(number) for side, number in re.findall(r'([a-z]+) ([\d.]+) \(', line)}

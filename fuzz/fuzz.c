@@ -6,12 +6,11 @@
 #include <string.h>
 #include "bliskoru.h"
 
-enum { ROOM = 1 << 14 };
+enum { LIST = 512, ROOM = 1 << 14 };
 
 uint8_t second_judge(const uint8_t *sheet, size_t len, size_t *at);
-uint8_t second_closings(const uint8_t *sheet, size_t len, int64_t answers[BLISKORU_ANSWERS], size_t *at);
+uint8_t second_answers(const uint8_t *sheet, size_t len, uint64_t answers[18], size_t *at);
 size_t second_list(const uint8_t *sheet, size_t len, uint8_t *out, size_t room);
-size_t second_rounding_list(const uint8_t *sheet, size_t len, uint8_t *out, size_t room);
 uint8_t second_read(const uint8_t *sheet, size_t len, size_t at, int64_t values[6], size_t *next);
 uint8_t second_tape_to_sheet(const uint8_t *tape, size_t len, uint8_t *sheet, size_t room, size_t *length, size_t *at);
 uint8_t second_sheet_to_tape(const uint8_t *sheet, size_t len, uint8_t *tape, size_t room, size_t *length, size_t *at);
@@ -60,25 +59,18 @@ static void compare_fields(const uint8_t *sheet, size_t len) {
     }
 }
 
-/* A list by both, in room that is always enough for it. */
-typedef size_t listing(const uint8_t *, size_t, uint8_t *, size_t);
-static void compare_lists(listing *library, listing *second, const uint8_t *sheet, size_t len, size_t room) {
-    uint8_t list[BLISKORU_ROUNDING_LIST_ROOM], second_lines[BLISKORU_ROUNDING_LIST_ROOM];
-    size_t length = library(sheet, len, list, room);
-    same("a list's length", length, second(sheet, len, second_lines, room));
-    if (memcmp(list, second_lines, length)) differ("a list", 0, 0);
-}
-
 static void compare_prices(const uint8_t *sheet, size_t len) {
-    int64_t a[BLISKORU_ANSWERS] = {0}, b[BLISKORU_ANSWERS] = {0};
+    uint64_t a[18] = {0}, b[18] = {0};
     size_t at = 0, second = 0;
-    uint8_t number = second_closings(sheet, len, b, &second);
+    uint8_t number = second_answers(sheet, len, b, &second);
     accepted += !number;
-    same("the answers' number", bliskoru_closings(sheet, len, a, &at), number);
+    same("the answers' number", bliskoru_answers(sheet, len, a, &at), number);
     same("the answers' byte", at, second);
-    for (int i = 0; i < BLISKORU_ANSWERS; i++) same("an answer", a[i], b[i]);
-    compare_lists(bliskoru_list, second_list, sheet, len, BLISKORU_LIST_ROOM);
-    compare_lists(bliskoru_rounding_list, second_rounding_list, sheet, len, BLISKORU_ROUNDING_LIST_ROOM);
+    for (int i = 0; i < 18; i++) same("an answer", a[i], b[i]);
+    uint8_t list[LIST], second_lines[LIST];
+    size_t length = bliskoru_list(sheet, len, list, LIST);
+    same("the list's length", length, second_list(sheet, len, second_lines, LIST));
+    if (memcmp(list, second_lines, length)) differ("the list", 0, 0);
 }
 
 /* A turning by both. */

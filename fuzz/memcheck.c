@@ -7,7 +7,7 @@
 #include <string.h>
 #include "bliskoru.h"
 
-enum { LIMIT = 1048576 };
+enum { LIMIT = 1048576, LIST = 512 };
 
 static unsigned long calls, sheets, texts;
 static uint64_t sum; /* of all that the calls told: printed, so that a byte that was never written is noticed */
@@ -40,14 +40,11 @@ static void read_at(const uint8_t *sheet, size_t len, size_t at) {
     free(values), free(next);
 }
 
-/* One of the two functions that list a sheet. */
-typedef size_t listing(const uint8_t *, size_t, uint8_t *, size_t);
-
-/* A list into a buffer of this size: whole, or not a byte changed. */
-static void list_into(listing *list, const uint8_t *sheet, size_t len, size_t room) {
+/* The list into a buffer of this size: whole, or not a byte changed. */
+static void list_into(const uint8_t *sheet, size_t len, size_t room) {
     uint8_t *out = block(room);
     memset(out, 0xA5, room);
-    size_t told = list(sheet, len, out, room);
+    size_t told = bliskoru_list(sheet, len, out, room);
     if (told > room) fail("a list longer than its buffer");
     for (size_t i = told; i < room; i++)
         if (out[i] != 0xA5) fail("a byte behind the list was changed");
@@ -57,15 +54,14 @@ static void list_into(listing *list, const uint8_t *sheet, size_t len, size_t ro
 }
 
 static void price(const uint8_t *sheet, size_t len) {
-    int64_t *answers = block(BLISKORU_ANSWERS * sizeof *answers);
+    uint64_t *answers = block(18 * sizeof *answers);
     size_t *at = block(sizeof *at);
-    if (bliskoru_closings(sheet, len, answers, at) == 0)
-        for (int i = 0; i < BLISKORU_ANSWERS; i++) sum += (uint64_t)answers[i];
+    if (bliskoru_answers(sheet, len, answers, at) == 0)
+        for (int i = 0; i < 18; i++) sum += answers[i];
     else
         sum += *at;
     calls++;
-    list_into(bliskoru_list, sheet, len, BLISKORU_LIST_ROOM);
-    list_into(bliskoru_rounding_list, sheet, len, BLISKORU_ROUNDING_LIST_ROOM);
+    list_into(sheet, len, LIST);
     free(answers), free(at);
 }
 
@@ -285,8 +281,7 @@ int main(int count, char **names) {
     cuts(everything, made, len), flips(everything, made, len);
     rooms(bliskoru_to_old_header, made, len), rooms(bliskoru_to_new_header, old, old_len);
     uint8_t *exact = copy(made, len);
-    for (size_t room = 0; room <= BLISKORU_LIST_ROOM; room++) list_into(bliskoru_list, exact, len, room);
-    for (size_t room = 0; room <= BLISKORU_ROUNDING_LIST_ROOM; room++) list_into(bliskoru_rounding_list, exact, len, room);
+    for (size_t room = 0; room <= LIST; room++) list_into(exact, len, room);
     free(exact);
 
     writers();

@@ -4,8 +4,8 @@
 /// A field's tag and values, zeros behind them.
 pub type Values = [i64; 6];
 
-/// The six answers, five numbers each.
-pub type Rows = [i64; 30];
+/// The six answers, three numbers each.
+pub type Rows = [u64; 18];
 
 /// One side's functions; `hosts/c/bliskoru.h` says what each does.
 pub struct Functions {
@@ -16,9 +16,8 @@ pub struct Functions {
 
 extern "C" {
     fn bliskoru_list(sheet: *const u8, len: usize, out: *mut u8, room: usize) -> usize;
-    fn bliskoru_rounding_list(sheet: *const u8, len: usize, out: *mut u8, room: usize) -> usize;
     fn bliskoru_judge(sheet: *const u8, len: usize, at: *mut usize) -> u8;
-    fn bliskoru_closings(sheet: *const u8, len: usize, rows: *mut Rows, at: *mut usize) -> u8;
+    fn bliskoru_answers(sheet: *const u8, len: usize, rows: *mut Rows, at: *mut usize) -> u8;
     fn bliskoru_read(sheet: *const u8, len: usize, at: usize, values: *mut Values, next: *mut usize) -> u8;
     fn bliskoru_tape_to_sheet(
         tape: *const u8,
@@ -54,7 +53,7 @@ extern "C" {
     ) -> u8;
 
     fn plain_judge(sheet: *const u8, len: usize, at: *mut usize) -> u8;
-    fn plain_closings(sheet: *const u8, len: usize, rows: *mut Rows, at: *mut usize) -> u8;
+    fn plain_answers(sheet: *const u8, len: usize, rows: *mut Rows, at: *mut usize) -> u8;
     fn plain_read(sheet: *const u8, len: usize, at: usize, values: *mut Values, next: *mut usize) -> u8;
     fn plain_to_new_header(
         sheet: *const u8,
@@ -75,7 +74,7 @@ extern "C" {
 
     fn limit_list(sheet: *const u8, len: usize, out: *mut u8, room: usize) -> usize;
     fn limit_judge(sheet: *const u8, len: usize, at: *mut usize) -> u8;
-    fn limit_closings(sheet: *const u8, len: usize, rows: *mut Rows, at: *mut usize) -> u8;
+    fn limit_answers(sheet: *const u8, len: usize, rows: *mut Rows, at: *mut usize) -> u8;
     fn limit_read(sheet: *const u8, len: usize, at: usize, values: *mut Values, next: *mut usize) -> u8;
     fn limit_to_new_header(
         sheet: *const u8,
@@ -95,7 +94,7 @@ extern "C" {
     ) -> u8;
 }
 
-/// One side's list: `plain.c` has none, and `limit.c` none with what rounding took.
+/// One side's list; `plain.c` has none.
 pub struct Lister(unsafe extern "C" fn(*const u8, usize, *mut u8, usize) -> usize);
 
 /// What makes a sheet or a text of another. The C programs have no texts.
@@ -118,16 +117,15 @@ pub const LIMIT_MOVES: Mover =
     Mover { to_new: Turner(limit_to_new_header), to_old: Turner(limit_to_old_header) };
 
 pub const LIBRARY: Functions =
-    Functions { judge: bliskoru_judge, answers: bliskoru_closings, read: bliskoru_read };
-pub const PLAIN: Functions = Functions { judge: plain_judge, answers: plain_closings, read: plain_read };
-pub const LIMIT: Functions = Functions { judge: limit_judge, answers: limit_closings, read: limit_read };
+    Functions { judge: bliskoru_judge, answers: bliskoru_answers, read: bliskoru_read };
+pub const PLAIN: Functions = Functions { judge: plain_judge, answers: plain_answers, read: plain_read };
+pub const LIMIT: Functions = Functions { judge: limit_judge, answers: limit_answers, read: limit_read };
 
 pub const LIBRARY_LIST: Lister = Lister(bliskoru_list);
-pub const LIBRARY_ROUNDING_LIST: Lister = Lister(bliskoru_rounding_list);
 pub const LIMIT_LIST: Lister = Lister(limit_list);
 
 impl Lister {
-    /// The list, and its length; 0 where the room is too short.
+    /// The closing list, and its length; 0 where the room is too short.
     pub fn list(&self, sheet: &[u8], out: &mut [u8]) -> usize {
         // SAFETY: both pairs are a live slice's pointer and length.
         unsafe { (self.0)(sheet.as_ptr(), sheet.len(), out.as_mut_ptr(), out.len()) }
@@ -177,7 +175,7 @@ impl Functions {
 
     /// The six answers, or the refusal's number and byte.
     pub fn answers(&self, sheet: &[u8]) -> Result<Rows, (u8, usize)> {
-        let (mut rows, mut at) = ([0; 30], 0);
+        let (mut rows, mut at) = ([0; 18], 0);
         match self.answers_at(sheet, &mut rows, &mut at) {
             0 => Ok(rows),
             number => Err((number, at)),

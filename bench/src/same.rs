@@ -1,20 +1,20 @@
-//! The four sides held to one another over a sheet: judgement, fields, answers and lists, and every byte that a
+//! The four sides held to one another over a sheet: judgement, fields, answers and list, and every byte that a
 //! call leaves as it was. The two that have texts are held to one another over these, and all four over moves to
 //! another header.
 
 use crate::damaged::visit_all;
 use crate::functions::{Functions, Lister, Mover, Rows, Turner, Values};
 use crate::functions::{LIBRARY, LIBRARY_LIST, LIBRARY_TO_SHEET, LIBRARY_TO_TAPE, LIMIT, LIMIT_LIST, PLAIN};
-use crate::functions::{LIBRARY_MOVES, LIBRARY_ROUNDING_LIST, LIMIT_MOVES, PLAIN_MOVES};
+use crate::functions::{LIBRARY_MOVES, LIMIT_MOVES, PLAIN_MOVES};
 use crate::moves::moved;
 use crate::second;
 use crate::tapes::sheet_of;
-use independent::list::{closing_list_by_spans, rounding_list_by_spans};
+use independent::list::closing_list_by_spans;
 use std::fmt::{self, Debug, Display};
 
 /// What the buffers hold before a call.
 const FILL: u8 = 0xA5;
-const ROOM: usize = 640;
+const ROOM: usize = 512;
 
 /// Fields are compared in sheets up to this length.
 const LONGEST_READ: usize = 4_096;
@@ -44,7 +44,6 @@ fn same<T: PartialEq + Debug>(what: &str, side: &str, given: T, wanted: T) -> Re
 
 const SIDES: [(&str, &Functions); 3] = [("library", &LIBRARY), ("plain", &PLAIN), ("limit", &LIMIT)];
 const LISTERS: [(&str, &Lister); 2] = [("library", &LIBRARY_LIST), ("limit", &LIMIT_LIST)];
-const ROUNDING_LISTERS: [(&str, &Lister); 1] = [("library", &LIBRARY_ROUNDING_LIST)];
 
 /// The number and what is left in the place, which a good sheet leaves as it was.
 fn judged(side: &Functions, sheet: &[u8]) -> (u8, usize) {
@@ -92,29 +91,24 @@ fn look_at_fields(sheet: &[u8], item: usize) -> Result<(), String> {
 fn look_at_answers(sheet: &[u8]) -> Result<(), String> {
     let wanted = match second::answers_by_spans(sheet) {
         Ok(rows) => (0, rows, usize::MAX),
-        Err((number, byte)) => (number, [i64::MIN; 30], byte),
+        Err((number, byte)) => (number, [u64::MAX; 18], byte),
     };
     for (name, side) in SIDES {
-        let (mut rows, mut at): (Rows, usize) = ([i64::MIN; 30], usize::MAX);
+        let (mut rows, mut at): (Rows, usize) = ([u64::MAX; 18], usize::MAX);
         let number = side.answers_at(sheet, &mut rows, &mut at);
         same("answers", name, (number, rows, at), wanted)?;
     }
     Ok(())
 }
 
-/// Both lists by those who have them.
-fn look_at_lists(sheet: &[u8]) -> Result<(), String> {
-    look_at_list(sheet, &closing_list_by_spans(sheet), &LISTERS)?;
-    look_at_list(sheet, &rounding_list_by_spans(sheet), &ROUNDING_LISTERS)
-}
-
-/// A list in a room with bytes behind it, in one that it just fills, and in one a byte too short.
-fn look_at_list(sheet: &[u8], list: &[u8], listers: &[(&str, &Lister)]) -> Result<(), String> {
+/// The list in a room with bytes behind it, in one that it just fills, and in one a byte too short.
+fn look_at_list(sheet: &[u8]) -> Result<(), String> {
+    let list = closing_list_by_spans(sheet);
     for room in [ROOM, list.len(), list.len() - 1] {
         let mut wanted = [FILL; ROOM];
         let length = if room < list.len() { 0 } else { list.len() };
         wanted[..length].copy_from_slice(&list[..length]);
-        for (name, side) in listers {
+        for (name, side) in LISTERS {
             let mut out = [FILL; ROOM];
             same("the list's length", name, side.list(sheet, &mut out[..room]), length)?;
             if out != wanted {
@@ -135,7 +129,7 @@ fn look(sheet: &[u8], tally: &mut Tally) -> Result<(), String> {
         tally.read += 1;
     }
     look_at_answers(sheet)?;
-    look_at_lists(sheet)
+    look_at_list(sheet)
 }
 
 fn shown(sheet: &[u8]) -> String {
@@ -149,7 +143,7 @@ pub fn agree(sheet: &[u8]) -> Result<(), String> {
         look_at_judgement(sheet)?;
         look_at_fields(sheet, 0)?;
         look_at_answers(sheet)?;
-        look_at_lists(sheet)?;
+        look_at_list(sheet)?;
         same("answers by spans", "spans", second::answers_by_spans(sheet), second::answers_by_walking(sheet))
     };
     look().map_err(|difference| format!("{difference}\n{}", shown(sheet)))

@@ -48,14 +48,12 @@ pub fn read(sheet: &[u8], at: usize) -> Result<(Values, usize), u8> {
 }
 
 fn rows_of(answers: [Answer; 6]) -> Rows {
-    let mut rows = [0; 30];
-    for (row, answer) in rows.chunks_exact_mut(5).zip(answers) {
+    let mut rows = [0; 18];
+    for (row, answer) in rows.chunks_exact_mut(3).zip(answers) {
         let numbers = match answer {
-            Answer::Priced { method, price, lots, remainder, divisor } => {
-                let method = if method == Method::Vwap { 1 } else { 2 };
-                [method, price, lots as i64, remainder, divisor as i64]
-            }
-            Answer::Refused { number, lots } => [number.into(), 0, lots as i64, 0, 0],
+            Answer::Priced { method: Method::Vwap, price, lots } => [1, price as u64, lots],
+            Answer::Priced { method: Method::Twap, price, lots } => [2, price as u64, lots],
+            Answer::Refused { number, lots } => [number.into(), 0, lots],
         };
         row.copy_from_slice(&numbers);
     }

@@ -1,12 +1,11 @@
 //! The pieces of work that are timed and counted, by name, for each side.
 
 use crate::functions::{Functions, Lister, Turner, Values, LIBRARY, LIBRARY_LIST, LIMIT, LIMIT_LIST, PLAIN};
-use crate::functions::{LIBRARY_MOVES, LIBRARY_ROUNDING_LIST, LIMIT_MOVES, PLAIN_MOVES};
-use crate::functions::{LIBRARY_TO_SHEET, LIBRARY_TO_TAPE};
+use crate::functions::{LIBRARY_MOVES, LIBRARY_TO_SHEET, LIBRARY_TO_TAPE, LIMIT_MOVES, PLAIN_MOVES};
 use crate::moves;
 use crate::second;
 use crate::tapes::sheet_of;
-use independent::list::{closing_list, closing_list_by_spans, rounding_list_by_spans};
+use independent::list::{closing_list, closing_list_by_spans};
 use independent::moves::{to_new_header, to_old_header};
 use independent::tables::SHEET_LIMIT;
 use independent::tape::{sheet_to_tape, tape_to_sheet, TAPE_LIMIT};
@@ -46,9 +45,8 @@ fn walk_second(sheet: &[u8]) {
     }
 }
 
-/// A list into room that is enough for every one.
-fn list<const ROOM: usize>(side: &Lister, sheet: &[u8]) {
-    let mut out = [0; ROOM];
+fn list(side: &Lister, sheet: &[u8]) {
+    let mut out = [0; 512];
     black_box(side.list(sheet, &mut out));
     black_box(&out);
 }
@@ -71,7 +69,7 @@ fn turn(side: &Turner, bytes: &[u8]) {
 
 /// The ways of each, the library first. `walking` is the independent program with each TWAP by every millisecond
 /// of its window; all others go from record to record.
-pub const ALL: [Work; 5] = [
+pub const ALL: [Work; 4] = [
     Work {
         name: "judge",
         limit: 1_048_576,
@@ -99,19 +97,10 @@ pub const ALL: [Work; 5] = [
         limit: 65_536,
         given: <[u8]>::to_vec,
         ways: &[
-            Way { side: "library", run: |sheet| list::<512>(&LIBRARY_LIST, sheet) },
+            Way { side: "library", run: |sheet| list(&LIBRARY_LIST, sheet) },
             Way { side: "independent", run: |sheet| hold(closing_list_by_spans(sheet)) },
-            Way { side: "limit", run: |sheet| list::<512>(&LIMIT_LIST, sheet) },
+            Way { side: "limit", run: |sheet| list(&LIMIT_LIST, sheet) },
             Way { side: "walking", run: |sheet| hold(closing_list(sheet)) },
-        ],
-    },
-    Work {
-        name: "rounding",
-        limit: 65_536,
-        given: <[u8]>::to_vec,
-        ways: &[
-            Way { side: "library", run: |sheet| list::<640>(&LIBRARY_ROUNDING_LIST, sheet) },
-            Way { side: "independent", run: |sheet| hold(rounding_list_by_spans(sheet)) },
         ],
     },
     Work {

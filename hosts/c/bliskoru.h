@@ -1,6 +1,6 @@
 /*
- * Bliskoru for C and C++: a day sheet's closing list and the same with what rounding took, its judgement and its six answers, single fields read
- * and written, a text tape turned into a sheet and back, and a sheet moved to the long header and back to the short one.
+ * Bliskoru for C and C++: a day sheet's closing list, its judgement and its six answers, single fields read and written, a text tape turned into
+ * a sheet and back, and a sheet moved to the long header and back to the short one.
  *
  * Link with target/staticlib/libbliskoru.a, which `rt staticlib bliskoru` writes. It needs memcpy and memset and nothing else.
  * docs/SHEET.md has the numbers, ranges and layouts, docs/TAPE.md the lines of a text tape, docs/RULES.md the prices, docs/HOSTS.md how to embed
@@ -57,7 +57,7 @@ enum bliskoru_method {
     BLISKORU_TWAP = 2
 };
 
-/* The rows of the answers, in pricing order: contract k has the numbers 5k to 5k + 4. */
+/* The rows of the answers, in pricing order: contract k has the numbers 3k, 3k + 1 and 3k + 2. */
 enum bliskoru_contract {
     BLISKORU_3M = 0,
     BLISKORU_M3 = 1,
@@ -90,16 +90,15 @@ enum bliskoru_side {
     BLISKORU_OFFER = 2
 };
 
-/* It is raised whenever a function, a tag or a number is added, or a layout is another: 1 has the sheet, 2 the text tape too, 3 the long header
-   too, 4 both headers' moves too, 5 what rounding took too, in the answers and in a second list. */
-#define BLISKORU_VERSION 5
+/* It is raised whenever a function, a tag or a number is added: 1 has the sheet, 2 the text tape too, 3 the long header too, 4 both
+   headers' moves too. */
+#define BLISKORU_VERSION 4
 
 #define BLISKORU_LONGEST_SHEET 1048576  /* bytes; a longer sheet is refused with 1 */
 #define BLISKORU_LONGEST_TAPE 3145728   /* bytes; no accepted sheet has a longer text */
-#define BLISKORU_LONGEST_LISTED 65536   /* bytes; either list of a longer sheet is the line `too long` */
-#define BLISKORU_LIST_ROOM 512          /* bytes; no closing list is longer */
-#define BLISKORU_ROUNDING_LIST_ROOM 640 /* bytes; no list with what rounding took is longer */
-#define BLISKORU_ANSWERS 30             /* six rows of five numbers */
+#define BLISKORU_LONGEST_LISTED 65536   /* bytes; the list of a longer sheet is the line `too long` */
+#define BLISKORU_LIST_ROOM 512          /* bytes; no list is longer */
+#define BLISKORU_ANSWERS 18             /* six rows of three numbers */
 #define BLISKORU_VALUES 6               /* a field's tag and values */
 #define BLISKORU_LONGEST_FIELD 17       /* bytes of a quote; header 6, long header 7, previous close 8, trade 14, end 7 */
 
@@ -112,15 +111,6 @@ enum bliskoru_side {
  * No:  0. The list is longer than out_len, and out stays as it was.
  */
 size_t bliskoru_list(const uint8_t *sheet, size_t sheet_len, uint8_t *out, size_t out_len);
-
-/*
- * The same with what rounding took: behind the lots of each contract that is priced stand its remainder, with a minus where it is below zero, and its
- * divisor. All other lines are those of the closing list.
- *   sheet, sheet_len  the sheet
- *   out, out_len      where the list goes; BLISKORU_ROUNDING_LIST_ROOM bytes are always enough
- * Yes, no: as bliskoru_list says it.
- */
-size_t bliskoru_rounding_list(const uint8_t *sheet, size_t sheet_len, uint8_t *out, size_t out_len);
 
 /*
  * Is this a sheet?
@@ -138,16 +128,13 @@ uint8_t bliskoru_judge(const uint8_t *sheet, size_t sheet_len, size_t *at);
  *   answers           BLISKORU_ANSWERS numbers: for 3M, M3, M2, M4, M1 and Cash in turn
  *                       1 VWAP, 2 TWAP, or the contract's refusal 13 to 15;
  *                       the close in cents, 1 to 99,999,999, or 0 where it is refused;
- *                       the lots, the sum over its VWAP instruments in the window, 0 with 15;
- *                       the remainder, what rounding took: the close times the divisor, less the sum that was divided. It is above zero where the
- *                       close was rounded up, and at most half of the step times the divisor either way; 0 where the contract is refused;
- *                       the divisor, the lots by VWAP and 300,000 by TWAP, or 0 where it is refused.
- *                     M3 or M4 has the five numbers of 3M where the header's third value names it, and 15 where one before it is refused
+ *                       the lots, the sum over its VWAP instruments in the window, 0 with 15.
+ *                     M3 or M4 has the three numbers of 3M where the header's third value names it, and 15 where one before it is refused
  *   at                the refusal's byte
  * Yes: 0, also where contracts are refused. All of answers is written, and *at stays as it was.
  * No:  1 to 12 or 18, as bliskoru_judge says it. *at is the byte, and answers stays as it was.
  */
-uint8_t bliskoru_closings(const uint8_t *sheet, size_t sheet_len, int64_t *answers, size_t *at);
+uint8_t bliskoru_answers(const uint8_t *sheet, size_t sheet_len, uint64_t *answers, size_t *at);
 
 /*
  * One field, whatever stands before or behind it.

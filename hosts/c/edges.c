@@ -17,8 +17,7 @@ static unsigned long made, failed;
 
 /* All that a call may write but buffers. Every part has eight bytes or a multiple of them, so there are no holes. */
 struct lent {
-    uint64_t guard_1;
-    int64_t answers[BLISKORU_ANSWERS];
+    uint64_t guard_1, answers[BLISKORU_ANSWERS];
     uint64_t guard_2;
     int64_t values[BLISKORU_VALUES];
     uint64_t guard_3;
@@ -30,7 +29,7 @@ struct lent {
 
 /* A line of a table: numbers, then bytes, in the table of moves the moved bytes behind them. */
 struct row {
-    int64_t numbers[BLISKORU_ANSWERS]; /* a place too great for it as its two's complement */
+    uint64_t numbers[BLISKORU_ANSWERS]; /* a negative one as its two's complement */
     uint8_t bytes[ROOM], moved[ROOM];
     size_t length, moved_len;
     char text[2 * ROOM];
@@ -101,7 +100,7 @@ static int next_row(FILE *table, struct row *row)
         if (row->text[0] == '#' || rest == NULL)
             continue;
         for (; *number != ':' && k < BLISKORU_ANSWERS; k++) {
-            row->numbers[k] = (int64_t)strtoull(number, &number, 10); /* it takes a minus as two's complement */
+            row->numbers[k] = strtoull(number, &number, 10); /* it takes a minus as two's complement */
             number += strspn(number, " ");
         }
         row->length = bytes_of(rest + 1, row->bytes);
@@ -335,11 +334,8 @@ static void look_at_move(const struct row *row)
 
 /* ---- whole sheets */
 
-/* One of the two functions that list a sheet. */
-typedef size_t listing(const uint8_t *, size_t, uint8_t *, size_t);
-
 /* The list into a buffer of `room` bytes: all of it, or nothing where it is longer. */
-static void look_at_room(listing *listed_by, const uint8_t *sheet, size_t length, const char *list, size_t room, const char *text)
+static void look_at_room(const uint8_t *sheet, size_t length, const char *list, size_t room, const char *text)
 {
     uint8_t got[GUARD + ROOM + GUARD], wanted[sizeof got];
     size_t listed = strlen(list), told;
@@ -347,34 +343,26 @@ static void look_at_room(listing *listed_by, const uint8_t *sheet, size_t length
     memset(wanted, FILL, sizeof wanted);
     if (listed <= room)
         memcpy(wanted + GUARD, list, listed);
-    told = listed_by(sheet, length, got + GUARD, room);
+    told = bliskoru_list(sheet, length, got + GUARD, room);
     expect(told == (listed <= room ? listed : 0), "the list's length", text);
     expect_same(got, wanted, sizeof got, "the list's buffer", text);
 }
 
-/* Room that is always enough, one byte more than the list, exact, one byte too little, and none. */
-static void look_at_list(listing *listed_by, const uint8_t *bytes, size_t length, const char *list, const char *text)
+static void look_at_list(const uint8_t *bytes, size_t length, const char *list, const char *text)
 {
     uint8_t *sheet = copy_of(bytes, length);
-    size_t listed = strlen(list), enough = listed_by == bliskoru_list ? BLISKORU_LIST_ROOM : BLISKORU_ROUNDING_LIST_ROOM;
-    look_at_room(listed_by, sheet, length, list, enough, text);
-    look_at_room(listed_by, sheet, length, list, listed + 1, text);
-    look_at_room(listed_by, sheet, length, list, listed, text);
-    look_at_room(listed_by, sheet, length, list, listed - 1, text);
-    look_at_room(listed_by, sheet, length, list, 0, text);
+    size_t listed = strlen(list);
+    look_at_room(sheet, length, list, BLISKORU_LIST_ROOM, text);
+    look_at_room(sheet, length, list, listed + 1, text);
+    look_at_room(sheet, length, list, listed, text);
+    look_at_room(sheet, length, list, listed - 1, text);
+    look_at_room(sheet, length, list, 0, text);
     expect_same(sheet, bytes, length, "the listed sheet", text);
     free(sheet);
 }
 
-/* Both lists, which are the same where nothing is priced. */
-static void look_at_lists(const uint8_t *sheet, size_t length, const char *list, const char *rounding, const char *text)
-{
-    look_at_list(bliskoru_list, sheet, length, list, text);
-    look_at_list(bliskoru_rounding_list, sheet, length, rounding, text);
-}
-
 /* Judgement and answers of a sheet: a refusal at a byte, or 0 and these answers. */
-static void look_at_sheet(const uint8_t *bytes, size_t length, uint8_t number, size_t byte, const int64_t *answers, const char *text)
+static void look_at_sheet(const uint8_t *bytes, size_t length, uint8_t number, size_t byte, const uint64_t *answers, const char *text)
 {
     struct lent got, wanted;
     uint8_t *sheet = copy_of(bytes, length);
@@ -388,7 +376,7 @@ static void look_at_sheet(const uint8_t *bytes, size_t length, uint8_t number, s
     fill(&got);
     if (number == BLISKORU_YES)
         memcpy(wanted.answers, answers, sizeof wanted.answers);
-    expect(bliskoru_closings(sheet, length, got.answers, &got.place) == number, "the answers' number", text);
+    expect(bliskoru_answers(sheet, length, got.answers, &got.place) == number, "the answers' number", text);
     expect_same(&got, &wanted, sizeof got, "what the answers were lent", text);
     expect_same(sheet, bytes, length, "the judged sheet", text);
     free(sheet);
@@ -401,7 +389,7 @@ static void look_at_refused(const struct row *row)
     size_t byte = (size_t)row->numbers[1];
     snprintf(list, sizeof list, "refused %u %lu\n", (unsigned)number, (unsigned long)byte);
     look_at_sheet(row->bytes, row->length, number, byte, NULL, row->text);
-    look_at_lists(row->bytes, row->length, list, list, row->text);
+    look_at_list(row->bytes, row->length, list, row->text);
     look_at_rooms(bliskoru_sheet_to_tape, row->bytes, row->length, refused_at(number, byte), row->text);
     look_at_unmoved(row->bytes, row->length, number, byte, row->text);
 }
@@ -425,33 +413,8 @@ static void look_at_moved_answers(const struct row *row)
     free(moved);
 }
 
-/* The line of a contract's five numbers, with the last two where they are wanted; the end of it. */
-static char *put_answer(char *out, const char *contract, const int64_t *row, int rounding)
-{
-    const long long told = row[0], close = row[1], lots = row[2], remainder = row[3], divisor = row[4];
-    if (told != BLISKORU_VWAP && told != BLISKORU_TWAP)
-        return out + sprintf(out, "%s refused %lld %lld\n", contract, told, lots);
-    out += sprintf(out, "%s %s %lld %lld", contract, told == BLISKORU_VWAP ? "VWAP" : "TWAP", close, lots);
-    return out + (rounding ? sprintf(out, " %lld %lld\n", remainder, divisor) : sprintf(out, "\n"));
-}
-
-/* A list as the row of a table has its answers. */
-static void list_of(const struct row *row, int rounding, char *out)
-{
-    static const char *const metals[] = {"Nickel", "Aluminium", "Zinc", "Copper", "Lead"};
-    static const char *const contracts[] = {"3M", "M3", "M2", "M4", "M1", "Cash"};
-    int k;
-    out += sprintf(out, "%s\n", metals[row->bytes[3] - 1]);
-    for (k = 0; k < 6; k++)
-        out = put_answer(out, contracts[k], row->numbers + 5 * k, rounding);
-}
-
 static void look_at_accepted(const struct row *row)
 {
-    char list[ROOM], rounding[ROOM];
-    list_of(row, 0, list);
-    list_of(row, 1, rounding);
-    look_at_lists(row->bytes, row->length, list, rounding, row->text);
     look_at_sheet(row->bytes, row->length, BLISKORU_YES, 0, row->numbers, row->text);
     look_there_and_back(row->bytes, row->length, row->text);
     if (row->bytes[0] == BLISKORU_LONG_HEADER && row->bytes[6] != BLISKORU_3M_IS_NO_MONTH)
@@ -474,15 +437,14 @@ static size_t sample(const char *folder, const char *name, const char *kind, uin
     return length;
 }
 
-/* A sample sheet of the repository and both lists beside it. */
+/* A sample sheet of the repository and the list beside it. */
 static void look_at_sample(const char *folder, const char *name)
 {
-    char list[ROOM + 1], rounding[ROOM + 1];
+    char list[ROOM + 1];
     uint8_t sheet[ROOM];
     size_t length = sample(folder, name, "sheet", sheet);
     list[sample(folder, name, "list", (uint8_t *)list)] = '\0';
-    rounding[sample(folder, name, "rounding", (uint8_t *)rounding)] = '\0';
-    look_at_lists(sheet, length, list, rounding, name);
+    look_at_list(sheet, length, list, name);
 }
 
 /* A sample sheet and the text beside it. */
@@ -496,7 +458,7 @@ static void look_at_sample_tape(const char *folder, const char *name)
 /* ---- one field */
 
 /* Reading at a place: a refusal, or 0 with these values and the place behind. */
-static void look_at_read(const uint8_t *bytes, size_t length, size_t at, uint8_t number, const int64_t *values, size_t next, const char *text)
+static void look_at_read(const uint8_t *bytes, size_t length, size_t at, uint8_t number, const uint64_t *values, size_t next, const char *text)
 {
     struct lent got, wanted;
     uint8_t *sheet = copy_of(bytes, length);
@@ -520,7 +482,7 @@ static void look_at_head(const struct row *row)
 /* The field of a row by the function of its tag. */
 static uint8_t written(const struct row *row, uint8_t *buffer, size_t length, size_t at, size_t *next)
 {
-    const int64_t *v = row->numbers + 2;
+    const uint64_t *v = row->numbers + 2;
     switch (row->numbers[1]) {
     case BLISKORU_HEADER:
         return bliskoru_write_header(buffer, length, at, (uint8_t)v[0], (uint16_t)v[1], next);
@@ -629,30 +591,19 @@ static uint8_t *nickel_of(int third, size_t trades, size_t quotes, size_t *lengt
     return sheet;
 }
 
-/* So many trades, one behind the other, at another price. */
-static void put_price(uint8_t *trade, size_t trades, uint64_t cents)
-{
-    for (; trades > 0; trades--, trade += 14)
-        put(trade + 8, cents, 4);
-}
-
-/* The rows of a contract without a reference and of one that is not reached, with no lots. */
-#define NO_REFERENCE BLISKORU_NO_REFERENCE, 0, 0, 0, 0
-#define NOT_REACHED BLISKORU_NOT_REACHED, 0, 0, 0, 0
-
 /* The longest sheet has 6 + 14 * 74,884 + 17 * 11 + 7 = 1,048,576 bytes; with the byte behind it, it is too long. */
 static void look_at_longest(void)
 {
-    static const int64_t answers[] = {1, 1800000, 748840000, 0, 748840000, NO_REFERENCE, NOT_REACHED, NOT_REACHED, NOT_REACHED, NOT_REACHED};
-    static const int64_t end[] = {5, 74896, 0, 0, 0, 0};
+    static const uint64_t answers[] = {1, 1800000, 748840000, 13, 0, 0, 15, 0, 0, 15, 0, 0, 15, 0, 0, 15, 0, 0};
+    static const uint64_t end[] = {5, 74896, 0, 0, 0, 0};
     size_t length;
     uint8_t *sheet = nickel_of(SHORT, 74884, 11, &length);
     expect(length == BLISKORU_LONGEST_SHEET, "the longest sheet's length", "longest");
     look_at_sheet(sheet, length, BLISKORU_YES, 0, answers, "longest");
     look_at_sheet(sheet, length + 1, BLISKORU_SHEET_TOO_LONG, 0, NULL, "one byte longer than the longest");
     look_at_rooms(bliskoru_sheet_to_tape, sheet, length + 1, refused_at(BLISKORU_SHEET_TOO_LONG, 0), "one byte longer than the longest");
-    look_at_lists(sheet, length, "too long\n", "too long\n", "longest");
-    look_at_lists(sheet, length + 1, "too long\n", "too long\n", "one byte longer than the longest");
+    look_at_list(sheet, length, "too long\n", "longest");
+    look_at_list(sheet, length + 1, "too long\n", "one byte longer than the longest");
     look_at_read(sheet, length, length - 7, BLISKORU_YES, end, length, "the longest sheet's end");
     memset(sheet, 0, length + 1);
     look_at_sheet(sheet, length, BLISKORU_TAG, 0, NULL, "1,048,576 zero bytes");
@@ -665,17 +616,15 @@ static void look_at_longest_listed(void)
 {
     static const char list[] = "Nickel\n3M VWAP 1800000 46790000\nM3 refused 13 0\nM2 refused 15 0\nM4 refused 15 0\n"
                                "M1 refused 15 0\nCash refused 15 0\n";
-    static const char rounding[] = "Nickel\n3M VWAP 1800000 46790000 0 46790000\nM3 refused 13 0\nM2 refused 15 0\nM4 refused 15 0\n"
-                                   "M1 refused 15 0\nCash refused 15 0\n";
     size_t length;
     uint8_t *sheet = nickel_of(SHORT, 4679, 1, &length);
     expect(length == BLISKORU_LONGEST_LISTED, "the longest listed sheet's length", "listed");
-    look_at_lists(sheet, length, list, rounding, "65,536 bytes");
-    look_at_lists(sheet, length + 1, "too long\n", "too long\n", "65,537 bytes");
+    look_at_list(sheet, length, list, "65,536 bytes");
+    look_at_list(sheet, length + 1, "too long\n", "65,537 bytes");
     look_at_sheet(sheet, length + 1, BLISKORU_OUT_OF_PLACE, length, NULL, "65,537 bytes");
     memset(sheet, 0, length + 1);
-    look_at_lists(sheet, length, "refused 3 0\n", "refused 3 0\n", "65,536 zero bytes");
-    look_at_lists(sheet, length + 1, "too long\n", "too long\n", "65,537 zero bytes");
+    look_at_list(sheet, length, "refused 3 0\n", "65,536 zero bytes");
+    look_at_list(sheet, length + 1, "too long\n", "65,537 zero bytes");
     free(sheet);
 }
 
@@ -684,15 +633,10 @@ static void look_at_listed_by_long_header(void)
 {
     static const char list[] = "Nickel\n3M VWAP 1800000 46680000\nM3 VWAP 1800000 46680000\nM2 refused 13 0\nM4 refused 15 0\n"
                                "M1 refused 15 0\nCash refused 15 0\n";
-    /* with every trade on a half of the step */
-    static const char rounding[] = "Nickel\n3M VWAP 1800100 46680000 2334000000 46680000\nM3 VWAP 1800100 46680000 2334000000 46680000\n"
-                                   "M2 refused 13 0\nM4 refused 15 0\nM1 refused 15 0\nCash refused 15 0\n";
     size_t length;
     uint8_t *sheet = nickel_of(BLISKORU_3M_IS_M3, 4668, 10, &length);
     expect(length == BLISKORU_LONGEST_LISTED, "the longest listed sheet's length", "listed by a long header");
-    look_at_list(bliskoru_list, sheet, length, list, "65,536 bytes by a long header");
-    put_price(sheet + 7, 4668, 1800050);
-    look_at_list(bliskoru_rounding_list, sheet, length, rounding, "65,536 bytes by a long header");
+    look_at_list(sheet, length, list, "65,536 bytes by a long header");
     free(sheet);
 }
 
@@ -735,8 +679,7 @@ static void look_at_longest_sheets_tape(void)
 /* By a long header the longest sheet has 7 + 14 * 74,890 + 17 * 6 + 7 = 1,048,576 bytes, its text 17 + 33 * 74,890 + 22 * 6. M3 is 3M. */
 static void look_at_longest_by_long_header(void)
 {
-    static const int64_t answers[] = {1, 1800000, 748900000, 0, 748900000, 1, 1800000, 748900000, 0, 748900000,
-                                      NO_REFERENCE, NOT_REACHED, NOT_REACHED, NOT_REACHED};
+    static const uint64_t answers[] = {1, 1800000, 748900000, 1, 1800000, 748900000, 13, 0, 0, 15, 0, 0, 15, 0, 0, 15, 0, 0};
     size_t length, tape_len;
     uint8_t *sheet = nickel_of(BLISKORU_3M_IS_M3, 74890, 6, &length), *tape = nickel_tape_of(LONG_LINE, 74890, 6, &tape_len);
     expect(length == BLISKORU_LONGEST_SHEET && tape_len == 2471519, "the lengths of sheet and text", "longest by a long header");
@@ -744,22 +687,6 @@ static void look_at_longest_by_long_header(void)
     look_at_pair(tape, tape_len, sheet, length, "longest by a long header");
     free(sheet);
     free(tape);
-}
-
-/* All trades of that sheet on a half of 3M's step, and a cent below it: remainders, 50 and -49 for each lot, that 32 bits do not hold. */
-static void look_at_greatest_remainders(void)
-{
-    static const int64_t half[] = {1, 1800100, 748900000, 37445000000, 748900000, 1, 1800100, 748900000, 37445000000, 748900000,
-                                   NO_REFERENCE, NOT_REACHED, NOT_REACHED, NOT_REACHED};
-    static const int64_t below[] = {1, 1800000, 748900000, -36696100000, 748900000, 1, 1800000, 748900000, -36696100000, 748900000,
-                                    NO_REFERENCE, NOT_REACHED, NOT_REACHED, NOT_REACHED};
-    size_t length;
-    uint8_t *sheet = nickel_of(BLISKORU_3M_IS_M3, 74890, 6, &length);
-    put_price(sheet + 7, 74890, 1800050);
-    look_at_sheet(sheet, length, BLISKORU_YES, 0, half, "longest, on a half");
-    put_price(sheet + 7, 74890, 1800049);
-    look_at_sheet(sheet, length, BLISKORU_YES, 0, below, "longest, below a half");
-    free(sheet);
 }
 
 /* The fields of the longest sheet by a short header are a byte too long behind a long one; a barred line, the 74,897th, comes before that. */
@@ -852,7 +779,7 @@ static void look_at_too_long_to_move(void)
 /* The reader of one field has no 1: it reads a field at byte 2,000,000 too. */
 static void look_far(void)
 {
-    static const int64_t header[] = {1, 4, 2047, 0, 0, 0};
+    static const uint64_t header[] = {1, 4, 2047, 0, 0, 0};
     static const uint8_t bytes[] = {1, 0, 3, 4, 7, 255};
     const size_t at = 2000000;
     uint8_t *sheet = (uint8_t *)calloc(at + sizeof bytes, 1);
@@ -870,7 +797,7 @@ int main(int argc, char **argv)
     each_row(folder, "hosts/edges/fields.txt", 110, look_at_field);
     each_row(folder, "hosts/edges/heads.txt", 50, look_at_head);
     each_row(folder, "hosts/edges/sheets.txt", 130, look_at_refused);
-    each_row(folder, "hosts/edges/answers.txt", 90, look_at_accepted);
+    each_row(folder, "hosts/edges/answers.txt", 50, look_at_accepted);
     each_row(folder, "hosts/edges/moves.txt", 100, look_at_move);
     each_tape(folder, "hosts/edges/tapes.txt", 500);
     look_at_sample(folder, "nickel");
@@ -887,7 +814,6 @@ int main(int argc, char **argv)
     look_at_listed_by_long_header();
     look_at_longest_sheets_tape();
     look_at_longest_by_long_header();
-    look_at_greatest_remainders();
     look_at_too_long_by_long_header();
     look_at_too_long_a_tape();
     look_at_longest_lines();

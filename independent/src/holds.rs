@@ -1,12 +1,11 @@
-//! Do printed lists obey demand 3's two laws? Only the lists are read, and how
-//! each pair was changed: no sheet is priced here. Of each sheet both lists are
-//! printed, and the closing list has to be the rounding list cut.
+//! Do printed closing lists obey demand 3's two laws? Only the lists are read,
+//! and how each pair was changed: no sheet is priced here.
 
-use crate::list::{cut_list, rounding_line};
+use crate::list::contract_line;
 use crate::pricing::{Answer, Method};
 use crate::tables::{Metal, CONTRACTS, METALS};
 
-/// What a rounding list of an accepted sheet says.
+/// What a closing list of an accepted sheet says.
 #[derive(Debug, PartialEq)]
 pub struct Printed {
     pub metal: &'static Metal,
@@ -20,28 +19,19 @@ pub type Law = fn(&Printed, &Printed, i64) -> Result<(), String>;
 /// A line's answer; none where it is no line of this contract.
 fn answer_in(contract: &str, line: &str) -> Option<Answer> {
     let words: Vec<&str> = line.split(' ').collect();
-    let answer = match *words.as_slice() {
-        [_, "refused", number, lots] => {
-            Answer::Refused { number: number.parse().ok()?, lots: lots.parse().ok()? }
-        }
-        [_, method, price, lots, remainder, divisor] => Answer::Priced {
-            method: method_of(method)?,
-            price: price.parse::<u32>().ok()?.into(),
-            lots: lots.parse().ok()?,
-            remainder: remainder.parse().ok()?,
-            divisor: divisor.parse().ok()?,
-        },
+    let &[_, method, number, lots] = words.as_slice() else { return None };
+    let lots = lots.parse().ok()?;
+    let number: u32 = number.parse().ok()?;
+    let answer = match method {
+        "VWAP" => Answer::Priced { method: Method::Vwap, price: number.into(), lots },
+        "TWAP" => Answer::Priced { method: Method::Twap, price: number.into(), lots },
+        "refused" => Answer::Refused { number: number.try_into().ok()?, lots },
         _ => return None,
     };
-    (rounding_line(contract, &answer) == format!("{line}\n")).then_some(answer)
+    (contract_line(contract, &answer) == format!("{line}\n")).then_some(answer)
 }
 
-fn method_of(name: &str) -> Option<Method> {
-    [Method::Vwap, Method::Twap].into_iter().find(|method| method.name() == name)
-}
-
-/// The rounding list in these lines; none where they are no list of an accepted
-/// sheet.
+/// The list in these lines; none where they are no list of an accepted sheet.
 pub fn printed(lines: &[&str]) -> Option<Printed> {
     let (name, lines) = lines.split_first()?;
     let metal = METALS.iter().find(|metal| metal.name == *name)?;
@@ -52,23 +42,16 @@ pub fn printed(lines: &[&str]) -> Option<Printed> {
     Some(Printed { metal, answers: answers.try_into().ok().filter(|_| whole)? })
 }
 
-/// The rounding list of a sheet, of which the closing list is printed first.
-fn behind_its_closing_list(text: &str) -> Result<Printed, &'static str> {
-    let lines: Vec<&str> = text.split('\n').collect();
-    let (closing, rounding) = lines.split_at(lines.len() / 2);
-    if closing.join("\n") + "\n" != cut_list(&rounding.join("\n")) {
-        return Err("the closing list is not the rounding list cut");
-    }
-    printed(rounding).ok_or("no list of an accepted sheet")
-}
-
-/// Each rounding list of the answers to a stream, an empty line behind each.
+/// Each list of the answers to a stream, an empty line behind each.
 fn lists(answers: &str) -> Result<Vec<Printed>, String> {
     let Some(answers) = answers.strip_suffix("\n\n") else {
         return Err("the last list is cut short".to_string());
     };
-    let lists = answers.split("\n\n").map(behind_its_closing_list).enumerate();
-    lists.map(|(place, list)| list.map_err(|fault| format!("sheet {place}: {fault}"))).collect()
+    let lists = answers.split("\n\n").enumerate().map(|(place, text)| {
+        let lines: Vec<&str> = text.split('\n').collect();
+        printed(&lines).ok_or_else(|| format!("list {place} is none of an accepted sheet"))
+    });
+    lists.collect()
 }
 
 fn is_14(answer: &Answer) -> bool {
@@ -76,8 +59,8 @@ fn is_14(answer: &Answer) -> bool {
 }
 
 /// The first law: up to the first 14 of either list a priced contract has
-/// moved by so many steps, with the same method, lots, remainder and divisor, and
-/// a refused one is the same.
+/// moved by so many steps, with the same method and lots, and a refused one is
+/// the same.
 pub fn shift_holds(before: &Printed, after: &Printed, steps: i64) -> Result<(), String> {
     if before.metal.name != after.metal.name {
         return Err("another metal".to_string());
@@ -86,8 +69,12 @@ pub fn shift_holds(before: &Printed, after: &Printed, steps: i64) -> Result<(), 
     let both = before.answers.iter().zip(&after.answers);
     let both = both.take_while(|(one, other)| !is_14(one) && !is_14(other));
     for (contract, (one, other)) in CONTRACTS.iter().zip(both) {
-        if one.lifted(cents) != *other {
-            return Err(format!("{} is not moved by {cents} cents alone", contract.name));
+        let expected = match *one {
+            Answer::Priced { method, price, lots } => Answer::Priced { method, price: price + cents, lots },
+            refused => refused,
+        };
+        if expected != *other {
+            return Err(format!("{} is not moved by {cents} cents", contract.name));
         }
     }
     Ok(())
@@ -115,7 +102,7 @@ pub fn all_hold(law: Law, numbers: &[i64], answers: &str) -> Result<String, Stri
 
 /// How many pairs there are and in how many the two lists differ; how many
 /// lists each metal has, and how many contracts are priced by each method or
-/// refused with each number, and how many rounding took up or down.
+/// refused with each number.
 fn held_text(lists: &[Printed]) -> String {
     let differ = lists.chunks_exact(2).filter(|pair| pair[0] != pair[1]).count();
     let mut text = format!("{} pairs hold, {differ} with different lists:", lists.len() / 2);
@@ -127,19 +114,7 @@ fn held_text(lists: &[Printed]) -> String {
         let answers = lists.iter().flat_map(|list| &list.answers);
         text.push_str(&format!(" {kind} {}", answers.filter(|answer| kind_of(answer) == kind).count()));
     }
-    for (way, sign) in [("up", 1), ("down", -1)] {
-        let answers = lists.iter().flat_map(|list| &list.answers);
-        text.push_str(&format!(" {way} {}", answers.filter(|answer| went(answer) == sign).count()));
-    }
     text + "\n"
-}
-
-/// The sign of a remainder: 1 where rounding went up, -1 where it went down.
-fn went(answer: &Answer) -> i64 {
-    match answer {
-        Answer::Priced { remainder, .. } => remainder.signum(),
-        Answer::Refused { .. } => 0,
-    }
 }
 
 fn kind_of(answer: &Answer) -> String {

@@ -163,8 +163,11 @@ pub fn has_14(answers: &[Answer; 6]) -> bool {
 }
 
 /// The first law, where neither side has a 14: priced contracts move by so many
-/// cents with the same method, lots, remainder and divisor, refused ones stay the
-/// same.
+/// cents with the same method and lots, refused ones stay the same.
 pub fn moved_alike(answers: &[Answer; 6], moved: &[Answer; 6], cents: i64) -> bool {
-    answers.map(|answer| answer.lifted(cents)) == *moved
+    let expected = answers.map(|answer| match answer {
+        Answer::Priced { method, price, lots } => Answer::Priced { method, price: price + cents, lots },
+        refused => refused,
+    });
+    expected == *moved
 }

@@ -8,7 +8,7 @@
 //! * [`sheet`]     a whole day sheet: which refusal, or the day it holds
 //! * [`indicator`] the indicator, its spans and its sum over a window
 //! * [`pricing`]   the six contracts
-//! * [`list`]      the closing list and the rounding list as text
+//! * [`list`]      the closing list as text
 //! * [`tape`]      a sheet as lines of text, and back
 //! * [`moves`]     a sheet moved to the other header
 //! * [`draft`]     sheets put together by hand, without any test of values
@@ -40,7 +40,7 @@ pub mod tables;
 pub mod tape;
 
 pub use field::{read_field, write_field, Field, Refusal, Walker};
-pub use list::{closing_list, rounding_list};
+pub use list::closing_list;
 pub use moves::{to_new_header, to_old_header};
 pub use pricing::{price_day, Answer, Method};
 pub use sheet::{judge_by_01_alone, judge_sheet, Day};

@@ -1,11 +1,11 @@
-//! The commands: the two lists, streams of cases, and the answers to them.
+//! The commands: a closing list, streams of cases, and the answers to them.
 
 use independent::field_cases::field_cases;
 use independent::generator::sized::sized_sheet;
 use independent::generator::tapes::{sized_tape, tape, TapeKind};
 use independent::holds::{all_hold, shift_holds, turn_holds, Law};
 use independent::laws::Pair;
-use independent::list::{closing_list, rounding_list};
+use independent::list::closing_list;
 use independent::named::named_cases;
 use independent::random::Random;
 use independent::sheet_cases::sheet_cases;
@@ -18,11 +18,9 @@ use std::str::FromStr;
 
 const USAGE: &str = "usage:
   independent list < SHEET              the closing list
-  independent rounding-list < SHEET     the same with what rounding took
   independent cases SEED COUNT          a stream of cases, the named ones first
   independent names                     the names of the named cases, in order
-  independent answer < STREAM           each closing list, its rounding list and
-                                        an empty line
+  independent answer < STREAM           each closing list and an empty line
   independent answer-by-spans < STREAM  the same, faster
   independent judge < STREAM            accepted or refused, a line each
   independent tally < STREAM            how often each number is given
@@ -65,7 +63,6 @@ fn main() -> ExitCode {
 fn run(words: &[&str]) -> Result<Vec<u8>, String> {
     match words {
         ["list"] => Ok(closing_list(&read_up_to(LIST_LIMIT)?)),
-        ["rounding-list"] => Ok(rounding_list(&read_up_to(LIST_LIMIT)?)),
         ["names"] => Ok(names().into_bytes()),
         ["sheet-cases"] => said_of_text(),
         ["field-cases"] => Ok(field_cases(&read_up_to(LIST_LIMIT)?).into_bytes()),

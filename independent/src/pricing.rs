@@ -23,23 +23,11 @@ impl Method {
 }
 
 /// A contract's answer. Lots are the sum over its VWAP instruments in the
-/// window, and 0 for number 15. The remainder is what rounding took: the price
-/// times the divisor, less the sum that was divided. The M contract that 3M is
-/// has all of 3M's answer.
+/// window, 0 for number 15, and 3M's for the M contract that 3M is.
 #[derive(Clone, Copy, Debug, PartialEq, Eq)]
 pub enum Answer {
-    Priced { method: Method, price: i64, lots: u64, remainder: i64, divisor: u64 },
+    Priced { method: Method, price: i64, lots: u64 },
     Refused { number: u8, lots: u64 },
-}
-
-impl Answer {
-    /// The same with its price, if it has one, so many cents higher.
-    pub fn lifted(mut self, cents: i64) -> Self {
-        if let Answer::Priced { price, .. } = &mut self {
-            *price += cents;
-        }
-        self
-    }
 }
 
 /// A contract's price before rounding: `sum` over `divisor`.
@@ -50,13 +38,11 @@ pub struct Exact {
     pub divisor: i128,
 }
 
-/// Of `sum` over `divisor` to `step`: the close, which is the greatest multiple m
-/// of the step with 2 * divisor * m no greater than 2 * sum + divisor * step; and
-/// the remainder, the close times the divisor less the sum.
-pub fn round_to_step(sum: i128, divisor: i128, step: i128) -> (i128, i128) {
+/// Of `sum` over `divisor` to `step`: the greatest multiple m of the step with
+/// 2 * divisor * m no greater than 2 * sum + divisor * step.
+pub fn round_to_step(sum: i128, divisor: i128, step: i128) -> i128 {
     let steps = (2 * sum + divisor * step).div_euclid(2 * divisor * step);
-    let close = steps * step;
-    (close, close * divisor - sum)
+    steps * step
 }
 
 /// The metal's row; an accepted sheet always has one.
@@ -134,11 +120,10 @@ pub fn exact_price(
     (exact, lots)
 }
 
-/// The rounding step of a contract: 3M's for the M contract that 3M is.
+/// The rounding step of a contract.
 pub fn step_of(day: &Day, contract: usize) -> i128 {
-    let is_3m = contract == THREE_MONTHS || named_contract(day) == Some(contract);
     match row_of(day) {
-        Some(metal) if is_3m => i128::from(metal.step),
+        Some(metal) if contract == THREE_MONTHS => i128::from(metal.step),
         _ => 1,
     }
 }
@@ -148,18 +133,12 @@ fn price_contract(day: &Day, contract: usize, closes: &[i128; 6], indicator_sum:
     let Some(exact) = exact else {
         return Answer::Refused { number: 13, lots };
     };
-    let (close, remainder) = round_to_step(exact.sum, exact.divisor, step_of(day, contract));
+    let close = round_to_step(exact.sum, exact.divisor, step_of(day, contract));
     let range = i128::from(LEAST_OUTRIGHT)..=i128::from(GREATEST_OUTRIGHT);
     if !range.contains(&close) {
         return Answer::Refused { number: 14, lots };
     }
-    Answer::Priced {
-        method: exact.method,
-        price: close as i64,
-        lots,
-        remainder: remainder as i64,
-        divisor: exact.divisor as u64,
-    }
+    Answer::Priced { method: exact.method, price: close as i64, lots }
 }
 
 /// The M contract that 3M is, by its place; none on most days.

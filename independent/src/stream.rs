@@ -3,7 +3,7 @@
 
 use crate::generator::random_sheet;
 use crate::laws::{shifted_pair, turned_pair, Pair};
-use crate::list::{closing_list, closing_list_by_spans, rounding_list, rounding_list_by_spans};
+use crate::list::{closing_list, closing_list_by_spans};
 use crate::named::named_cases;
 use crate::pricing::{price_day_by_spans, Answer};
 use crate::random::Random;
@@ -75,27 +75,23 @@ pub fn stream_of_pairs(pairs: &[Pair]) -> Vec<u8> {
     stream
 }
 
-/// What a program prints for a sheet.
-type List = fn(&[u8]) -> Vec<u8>;
-
-fn answers_with(sheets: &[&[u8]], lists: [List; 2]) -> Vec<u8> {
+fn answers_with(sheets: &[&[u8]], list: fn(&[u8]) -> Vec<u8>) -> Vec<u8> {
     let mut text = Vec::new();
     for sheet in sheets {
-        text.extend(lists.map(|list| list(sheet)).concat());
+        text.extend(list(sheet));
         text.push(b'\n');
     }
     text
 }
 
-/// Each sheet's closing list and right behind it its rounding list, an empty line
-/// behind both.
+/// Each sheet's closing list, an empty line behind each.
 pub fn answer(sheets: &[&[u8]]) -> Vec<u8> {
-    answers_with(sheets, [closing_list, rounding_list])
+    answers_with(sheets, closing_list)
 }
 
 /// The same, with the indicator summed by spans.
 pub fn answer_by_spans(sheets: &[&[u8]]) -> Vec<u8> {
-    answers_with(sheets, [closing_list_by_spans, rounding_list_by_spans])
+    answers_with(sheets, closing_list_by_spans)
 }
 
 /// `accepted METAL MARKS FIELDS` or `refused NUMBER BYTE`, without a line feed.

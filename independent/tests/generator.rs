@@ -6,8 +6,8 @@ use independent::field::{Field, Quote, Trade};
 use independent::generator::fault::sheet_with_fault;
 use independent::generator::sized::sized_sheet;
 use independent::generator::{accepted_sheet, damaged_sheet, random_sheet};
-use independent::indicator::spans;
-use independent::pricing::{named_contract, price_day_by_spans, step_of, Method};
+use independent::indicator::{spans, sum_by_spans};
+use independent::pricing::{exact_price, named_contract, price_day_by_spans, step_of, Method};
 use independent::random::Random;
 use independent::sheet::Record;
 use independent::stream::{cases, frames, stream_of_cases, tally};
@@ -90,53 +90,46 @@ fn i9_long_headers_are_a_third() {
     }
 }
 
-/// The method of a contract's price, 3M's or its own, and what rounding did: it went
-/// up, from an exact half or not, or down, or had nothing to take. Or the number of
-/// its refusal.
-fn kind_of_answer(day: &Day, contract: usize, answer: &Answer) -> String {
-    let (method, remainder, divisor) = match *answer {
-        Answer::Refused { number, .. } => return format!("refused {number}"),
-        Answer::Priced { method, remainder, divisor, .. } => (method.name(), remainder, divisor),
-    };
-    let most = i128::from(divisor) * step_of(day, contract);
-    let way = match remainder.signum() {
-        1 if 2 * i128::from(remainder) == most => "half",
-        1 => "up",
-        -1 => "down",
-        _ => "whole",
-    };
-    let whose = if named_contract(day) == Some(contract) { "3M's" } else { "own" };
-    format!("{whose} {method} {way}")
-}
-
-/// How often each contract gets each kind of answer.
-fn kinds_of_answers(days: impl Iterator<Item = Day>) -> HashMap<(usize, String), usize> {
-    let mut kinds = HashMap::new();
-    for day in days {
-        let answers = price_day_by_spans(&day);
-        let kind = |(contract, answer)| (contract, kind_of_answer(&day, contract, answer));
-        answers.iter().enumerate().map(kind).for_each(|kind| *kinds.entry(kind).or_default() += 1);
+/// How often each contract gets each answer: method and whether its price is
+/// on an exact half, or the number of its refusal.
+fn kinds_of_answers(day: &Day, kinds: &mut HashMap<(usize, String), usize>) {
+    let mut closes = [0; 6];
+    for (contract, answer) in price_day_by_spans(day).into_iter().enumerate() {
+        let kind = match answer {
+            Answer::Priced { method, price, .. } if named_contract(day) == Some(contract) => {
+                closes[contract] = i128::from(price);
+                format!("3M's {}", method.name())
+            }
+            Answer::Refused { number, .. } => format!("refused {number}"),
+            Answer::Priced { method, price, .. } => {
+                let (exact, _) = exact_price(day, contract, &closes, sum_by_spans);
+                let exact = exact.unwrap();
+                let over = 2 * exact.sum + exact.divisor * step_of(day, contract);
+                let half = over % (2 * exact.divisor * step_of(day, contract)) == 0;
+                closes[contract] = i128::from(price);
+                format!("{}{}", method.name(), if half { " half" } else { "" })
+            }
+        };
+        *kinds.entry((contract, kind)).or_default() += 1;
     }
-    kinds
-}
-
-/// What rounding takes by both methods, of 3M's prices or a contract's own. 3M's VWAP
-/// is seldom on a whole step.
-fn kinds_of_rounding(whose: &str) -> Vec<String> {
-    let ways = ["half", "up", "down"];
-    ways.iter().flat_map(|way| ["VWAP", "TWAP"].map(|method| format!("{whose} {method} {way}"))).collect()
 }
 
 #[test]
 fn every_kind_of_answer_comes_up_for_every_contract() {
-    let kinds = kinds_of_answers(accepted_days(9_000));
-    let of_all = ["refused 13", "refused 14"].map(String::from).into_iter().chain(kinds_of_rounding("own"));
-    let of_named = kinds_of_rounding("3M's").into_iter();
-    let wanted = of_all.flat_map(|kind| (0..6).map(move |contract| (contract, kind.clone())));
-    let taken = of_named.flat_map(|kind| [1, 3].map(|contract| (contract, kind.clone())));
-    for kind in wanted.chain(taken) {
-        let count = kinds.get(&kind).copied().unwrap_or(0);
-        assert!(count >= 20, "{kind:?}: {count}");
+    let mut kinds = HashMap::new();
+    for day in accepted_days(9_000) {
+        kinds_of_answers(&day, &mut kinds);
+    }
+    for contract in 0..6 {
+        let wanted = ["VWAP", "TWAP", "VWAP half", "TWAP half", "refused 13", "refused 14"];
+        for kind in wanted {
+            let count = kinds.get(&(contract, kind.to_string())).copied();
+            assert!(count.unwrap_or(0) >= 20, "{contract} {kind}: {count:?}");
+        }
+    }
+    for (contract, kind) in [(1, "3M's VWAP"), (1, "3M's TWAP"), (3, "3M's VWAP"), (3, "3M's TWAP")] {
+        let count = kinds.get(&(contract, kind.to_string())).copied();
+        assert!(count.unwrap_or(0) >= 100, "{contract} {kind}: {count:?}");
     }
 }
 

@@ -27,7 +27,7 @@ fn rows() -> HashMap<String, Vec<String>> {
 
 /// Is this a label: a letter of the page and a number, or F-8?
 fn is_label(word: &str) -> bool {
-    let number = word.strip_prefix(['A', 'B', 'C', 'D', 'E', 'F', 'G', 'H', 'I', 'J', 'K', 'L', 'P', 'R']);
+    let number = word.strip_prefix(['A', 'B', 'C', 'D', 'E', 'F', 'G', 'H', 'I', 'J', 'K', 'P', 'R']);
     let number = number.map(|number| number.strip_prefix('-').unwrap_or(number));
     number.is_some_and(|number| !number.is_empty() && number.bytes().all(|byte| byte.is_ascii_digit()))
 }
@@ -79,9 +79,8 @@ fn labels_of_edges() -> HashSet<String> {
 }
 
 fn labels_of_tests() -> HashSet<String> {
-    let entries = fs::read_dir(repository().join("independent/tests")).unwrap();
-    let files = entries.map(|entry| entry.unwrap().path()).filter(|path| path.is_file());
-    let texts = files.map(|file| fs::read_to_string(file).unwrap());
+    let files = fs::read_dir(repository().join("independent/tests")).unwrap();
+    let texts = files.map(|file| fs::read_to_string(file.unwrap().path()).unwrap());
     let names = |text: String| {
         let names = text.lines().filter_map(|line| line.strip_prefix("fn ")).flat_map(labels_of_test);
         names.collect::<Vec<_>>()

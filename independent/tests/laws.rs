@@ -89,8 +89,6 @@ fn g1_resting_bids_obey_both_laws() {
             method: Method::Twap,
             price: price + cents,
             lots: 0,
-            remainder: 0,
-            divisor: 300_000,
         })
     };
     assert_eq!(answers(&sheet), moved(0));

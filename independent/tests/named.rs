@@ -1,11 +1,11 @@
-//! Every named case gives its hand-written lists; each label in a name has its
+//! Every named case gives its hand-written list; each label in a name has its
 //! row in docs/CASES.md.
 
-use independent::list::{closing_list_by_spans, rounding_list_by_spans, unlimited_list};
+use independent::list::{closing_list_by_spans, unlimited_list};
 use independent::named::{large_cases, named_cases, NamedCase};
 use independent::sheet::Record;
 use independent::stream::judge_line;
-use independent::{closing_list, judge_sheet, rounding_list};
+use independent::{closing_list, judge_sheet};
 use std::collections::HashSet;
 
 fn text(bytes: Vec<u8>) -> String {
@@ -15,7 +15,7 @@ fn text(bytes: Vec<u8>) -> String {
 #[test]
 fn every_named_case_gives_its_list() {
     let mut wrong = Vec::new();
-    for NamedCase { name, sheet, list, .. } in named_cases() {
+    for NamedCase { name, sheet, list } in named_cases() {
         let given = text(closing_list(&sheet));
         if given != list {
             wrong.push(format!("{name}\nexpected\n{list}given\n{given}"));
@@ -23,18 +23,6 @@ fn every_named_case_gives_its_list() {
         assert_eq!(text(closing_list_by_spans(&sheet)), given, "{name}");
     }
     assert!(wrong.is_empty(), "{}", wrong.join("\n"));
-}
-
-/// L1 to L10 and no other case have their rounding lists by hand.
-#[test]
-fn l1_to_l10_give_their_rounding_lists() {
-    for NamedCase { name, sheet, rounding, .. } in named_cases() {
-        assert_eq!(rounding.is_some(), name.starts_with('L'), "{name}");
-        if let Some(rounding) = rounding {
-            assert_eq!(text(rounding_list(&sheet)), rounding, "{name}");
-            assert_eq!(text(rounding_list_by_spans(&sheet)), rounding, "{name}");
-        }
-    }
 }
 
 #[test]
@@ -45,7 +33,7 @@ fn names_are_told_apart() {
 }
 
 #[test]
-fn every_row_of_b_c_g_i_k_and_l_seen_from_outside_has_a_named_case() {
+fn every_row_of_b_c_g_i_and_k_seen_from_outside_has_a_named_case() {
     let cases = named_cases();
     let large = large_cases();
     let named = |id: &str| {
@@ -67,9 +55,6 @@ fn every_row_of_b_c_g_i_k_and_l_seen_from_outside_has_a_named_case() {
     for row in 1..=12 {
         assert!(named(&format!("K{row}")), "K{row}");
     }
-    for row in 1..=10 {
-        assert!(named(&format!("L{row}")), "L{row}");
-    }
 }
 
 #[test]
@@ -79,10 +64,9 @@ fn b17_b18_d1_large_sheets() {
     assert_eq!(lengths[..4], [65_537, 1_048_576, 1_048_577, 1_048_577]);
     assert_eq!(lengths[4..14], [1_048_576; 10]);
     assert_eq!(lengths[14..], [1_048_577]);
-    for NamedCase { name, sheet, list, .. } in cases {
+    for NamedCase { name, sheet, list } in cases {
         assert_eq!(text(unlimited_list(&sheet)), list, "{name}");
         assert_eq!(text(closing_list(&sheet)), "too long\n", "{name}");
-        assert_eq!(text(rounding_list(&sheet)), "too long\n", "{name}");
     }
 }
 
@@ -150,12 +134,11 @@ fn d1_the_longest_sheet_of_the_program_is_judged() {
 #[test]
 fn d5_seven_lines_or_one() {
     for case in named_cases() {
+        let list = text(closing_list(&case.sheet));
         let accepted = judge_sheet(&case.sheet).is_ok();
         let listed = case.sheet.len() <= 65_536;
-        for list in [closing_list_by_spans, rounding_list_by_spans].map(|list| text(list(&case.sheet))) {
-            assert!(list.ends_with('\n'));
-            assert_eq!(list.lines().count(), if accepted && listed { 7 } else { 1 });
-            assert_eq!(list.starts_with("refused "), !accepted);
-        }
+        assert!(list.ends_with('\n'));
+        assert_eq!(list.lines().count(), if accepted && listed { 7 } else { 1 });
+        assert_eq!(list.starts_with("refused "), !accepted);
     }
 }

@@ -49,15 +49,15 @@ fn i9_the_day_on_which_3m_is_m3_is_the_example_sheet() {
     assert_eq!(example("third_wednesday.sheet"), third_wednesday_sheet());
     assert_eq!(example("third_wednesday.list"), THIRD_WEDNESDAY_LIST.as_bytes());
     assert_eq!(list(&third_wednesday_sheet()), THIRD_WEDNESDAY_LIST);
-    assert_eq!(round_to_step(5 * 700_400 + 2 * 700_000, 7, 50), (700_300, 100));
-    assert_eq!(round_to_step(5 * 701_800 + 2 * 701_250, 7, 1), (701_643, 1));
+    assert_eq!(round_to_step(5 * 700_400 + 2 * 700_000, 7, 50), 700_300);
+    assert_eq!(round_to_step(5 * 701_800 + 2 * 701_250, 7, 1), 701_643);
 }
 
 #[test]
 fn p1_to_p3_the_copper_tables() {
-    assert_eq!(round_to_step(345_210_000, 375, 1), (920_560, 0));
-    assert_eq!(round_to_step(294_658_000, 320, 1), (920_806, -80));
-    assert_eq!(round_to_step(622_071_936, 676, 1), (920_225, 164));
+    assert_eq!(round_to_step(345_210_000, 375, 1), 920_560);
+    assert_eq!(round_to_step(294_658_000, 320, 1), 920_806);
+    assert_eq!(round_to_step(622_071_936, 676, 1), 920_225);
 }
 
 /// Spread 7 at 375 from before the window; a bid at 400 in the second and
@@ -78,15 +78,15 @@ fn p4_and_p5_m1_and_cash() {
     let sum = 380 * 300_000;
     assert_eq!(sum_by_walking(&day, 7, 60_000_000), Some(sum));
     assert_eq!(sum_by_spans(&day, 7, 60_000_000), Some(sum));
-    assert_eq!(round_to_step(300_000 * 920_806 + sum, 300_000, 1), (921_186, 0));
-    assert_eq!(round_to_step(300_000 * (921_186 + 50), 300_000, 1), (921_236, 0));
+    assert_eq!(round_to_step(300_000 * 920_806 + sum, 300_000, 1), 921_186);
+    assert_eq!(round_to_step(300_000 * (921_186 + 50), 300_000, 1), 921_236);
 }
 
 #[test]
 fn p6_to_p8_steps() {
-    assert_eq!(round_to_step(920_125, 1, 50), (920_150, 25));
-    assert_eq!(round_to_step(920_124, 1, 50), (920_100, -24));
-    assert_eq!(round_to_step(1_800_049, 1, 100), (1_800_000, -49));
+    assert_eq!(round_to_step(920_125, 1, 50), 920_150);
+    assert_eq!(round_to_step(920_124, 1, 50), 920_100);
+    assert_eq!(round_to_step(1_800_049, 1, 100), 1_800_000);
 }
 
 /// The second line of the list (M3) of a Copper sheet with so many lots.

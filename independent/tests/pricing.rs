@@ -1,15 +1,13 @@
 //! The arithmetic against slower words: rounding against a search, the answers by
 //! spans against the walk, the indicator and 13 against their own sentences.
 
-mod words;
-
+use independent::field::{BID, OFFER};
 use independent::generator::accepted_days;
-use independent::indicator::{sum_by_walking, Indicator};
+use independent::indicator::sum_by_walking;
 use independent::pricing::{named_contract, price_day_by_spans, round_to_step};
 use independent::sheet::Record;
 use independent::tables::{in_window, metal_row, window_start, CONTRACTS, WINDOW};
 use independent::{price_day, Answer, Day};
-use words::words_of_the_state;
 
 /// The greatest multiple m of u with 2Dm <= 2N + Du, by searching downwards.
 fn searched(sum: i128, divisor: i128, step: i128) -> i128 {
@@ -25,11 +23,8 @@ fn rounding_is_the_greatest_multiple() {
     for step in [1, 2, 5, 50, 100] {
         for divisor in [1, 2, 3, 5, 7, 10] {
             for sum in -250..=250 {
-                let (close, remainder) = round_to_step(sum, divisor, step);
-                assert_eq!(close, searched(sum, divisor, step), "{sum}/{divisor} to {step}");
-                assert_eq!(close * divisor, sum + remainder, "{sum}/{divisor} to {step}");
-                let twice = 2 * remainder;
-                assert!(-divisor * step < twice && twice <= divisor * step, "{sum}/{divisor} to {step}");
+                let rounded = round_to_step(sum, divisor, step);
+                assert_eq!(rounded, searched(sum, divisor, step), "{sum}/{divisor} to {step}");
             }
         }
     }
@@ -37,11 +32,11 @@ fn rounding_is_the_greatest_multiple() {
 
 #[test]
 fn c14_negative_halves_go_up() {
-    assert_eq!(round_to_step(-1, 2, 1), (0, 1));
-    assert_eq!(round_to_step(-3, 2, 1), (-1, 1));
-    assert_eq!(round_to_step(-75, 1, 50), (-50, 25));
-    assert_eq!(round_to_step(-76, 1, 50), (-100, -24));
-    assert_eq!(round_to_step(-25, 1, 50), (0, 25));
+    assert_eq!(round_to_step(-1, 2, 1), 0);
+    assert_eq!(round_to_step(-3, 2, 1), -1);
+    assert_eq!(round_to_step(-75, 1, 50), -50);
+    assert_eq!(round_to_step(-76, 1, 50), -100);
+    assert_eq!(round_to_step(-25, 1, 50), 0);
 }
 
 #[test]
@@ -51,13 +46,25 @@ fn both_ways_give_the_same_answers() {
     }
 }
 
-/// What the indicator says (RULES 7) at a millisecond: a bid above the reference,
-/// an offer below it, otherwise the reference.
+/// What the indicator says (RULES 7) at a millisecond: the last trade so far or
+/// the previous close, and the sides of the latest quote so far.
 fn words_of_the_indicator(day: &Day, instrument: u8, millisecond: u32) -> Option<i128> {
-    let Indicator { reference, bid, offer } = words_of_the_state(day, instrument, millisecond);
-    let reference = reference?;
-    let better = bid.filter(|bid| *bid > reference).or(offer.filter(|offer| *offer < reference));
-    Some(i128::from(better.unwrap_or(reference)))
+    let so_far = |record: &&Record| record.instrument() == instrument && record.time() <= millisecond;
+    let trade = day.records.iter().rev().filter(so_far).find_map(|record| match record {
+        Record::Trade(trade) => Some(trade.price),
+        Record::Quote(_) => None,
+    });
+    let quote = day.records.iter().rev().filter(so_far).find_map(|record| match record {
+        Record::Trade(_) => None,
+        Record::Quote(quote) => Some(quote),
+    });
+    let reference = trade.or(day.previous_close(instrument))?;
+    let value = match quote {
+        Some(quote) if quote.sides & BID != 0 && quote.bid > reference => quote.bid,
+        Some(quote) if quote.sides & OFFER != 0 && quote.offer < reference => quote.offer,
+        _ => reference,
+    };
+    Some(i128::from(value))
 }
 
 #[test]

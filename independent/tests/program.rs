@@ -3,7 +3,7 @@
 use independent::generator::tapes::{sized_tape, tape, TapeKind};
 use independent::named::moves::named_moves;
 use independent::named::tapes::NICKEL_TAPE;
-use independent::named::{nickel_sheet, third_wednesday_sheet, NICKEL_LIST, NICKEL_ROUNDING};
+use independent::named::{nickel_sheet, third_wednesday_sheet, NICKEL_LIST};
 use independent::stream::{cases, shifted, stream_of_cases, stream_of_pairs, turned};
 use std::io::Write;
 use std::process::{Command, Output, Stdio};
@@ -32,28 +32,19 @@ fn printed(words: &[&str], pieces: &[&[u8]]) -> String {
     String::from_utf8(output.stdout).unwrap()
 }
 
-/// The commands that list a sheet.
-const LISTS: [&str; 2] = ["list", "rounding-list"];
-
 #[test]
 fn d6_a_sheet_may_come_in_pieces() {
     let sheet = nickel_sheet();
     let pieces: Vec<&[u8]> = sheet.chunks(7).collect();
     assert_eq!(printed(&["list"], &pieces), NICKEL_LIST);
-    assert_eq!(printed(&["rounding-list"], &pieces), NICKEL_ROUNDING);
-    for command in LISTS {
-        assert_eq!(printed(&[command], &[]), "refused 2 0\n");
-        assert_eq!(printed(&[command], &[&sheet[..50]]), "refused 2 50\n");
-    }
+    assert_eq!(printed(&["list"], &[]), "refused 2 0\n");
 }
 
 #[test]
 fn d1_too_long() {
-    for command in LISTS {
-        assert_eq!(printed(&[command], &[&[0; 65_536]]), "refused 3 0\n");
-        assert_eq!(printed(&[command], &[&[0; 65_537]]), "too long\n");
-        assert_eq!(printed(&[command], &[&[0; 2_000_000]]), "too long\n");
-    }
+    assert_eq!(printed(&["list"], &[&[0; 65_536]]), "refused 3 0\n");
+    assert_eq!(printed(&["list"], &[&[0; 65_537]]), "too long\n");
+    assert_eq!(printed(&["list"], &[&[0; 2_000_000]]), "too long\n");
 }
 
 #[test]
@@ -62,8 +53,7 @@ fn a_stream_is_answered_and_judged() {
     stream.extend(nickel_sheet());
     stream.extend([0, 0, 0, 0]);
     stream.extend([0, 0, 0, 1, 9]);
-    let refused = "refused 2 0\nrefused 2 0\n\n";
-    let expected = format!("{NICKEL_LIST}{NICKEL_ROUNDING}\n{refused}{refused}");
+    let expected = format!("{NICKEL_LIST}\nrefused 2 0\n\nrefused 2 0\n\n");
     assert_eq!(printed(&["answer"], &[&stream]), expected);
     assert_eq!(printed(&["answer-by-spans"], &[&stream]), expected);
     let judged = "accepted 1 0 11\nrefused 2 0\nrefused 2 0\n";

@@ -2,15 +2,13 @@
 //! at the instrument's records and nowhere else, have over them what the words of
 //! RULES 7 say, and add up to the sum of the walk.
 
-mod words;
-
+use independent::field::{BID, OFFER};
 use independent::generator::accepted_days;
 use independent::indicator::{spans, sum_by_spans, sum_by_walking, Indicator, Span};
 use independent::named::{large_cases, named_cases, NamedCase};
 use independent::sheet::Record;
 use independent::tables::{in_window, metal_row, window_start, WINDOW};
 use independent::{judge_sheet, Day};
-use words::words_of_the_state;
 
 /// The accepted sheets among the named cases, the longest too.
 fn named_days() -> impl Iterator<Item = (String, Day)> {
@@ -25,6 +23,25 @@ fn start_of(day: &Day, instrument: u8) -> u32 {
 
 fn spans_of(day: &Day, instrument: u8) -> Vec<Span> {
     spans(day, instrument, start_of(day, instrument)).collect()
+}
+
+/// The last trade so far or the previous close, and the sides of the latest quote
+/// so far, at a millisecond.
+fn words_of_the_state(day: &Day, instrument: u8, millisecond: u32) -> Indicator {
+    let so_far = |record: &&Record| record.instrument() == instrument && record.time() <= millisecond;
+    let trade = day.records.iter().rev().filter(so_far).find_map(|record| match record {
+        Record::Trade(trade) => Some(trade.price),
+        Record::Quote(_) => None,
+    });
+    let quote = day.records.iter().rev().filter(so_far).find_map(|record| match record {
+        Record::Trade(_) => None,
+        Record::Quote(quote) => Some(quote),
+    });
+    Indicator {
+        reference: trade.or(day.previous_close(instrument)),
+        bid: quote.filter(|quote| quote.sides & BID != 0).map(|quote| quote.bid),
+        offer: quote.filter(|quote| quote.sides & OFFER != 0).map(|quote| quote.offer),
+    }
 }
 
 /// The indicator that the walk has at a millisecond, behind every record up to and

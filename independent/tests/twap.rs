@@ -146,7 +146,7 @@ fn each_table_gives_the_line_of_the_list() {
         let (_, other) = line_of(sample, "M2");
         let (line, close) = line_of(sample, "M1");
         let exact = 300_000 * other + sum;
-        assert_eq!(round_to_step(exact, 300_000, 1).0, close);
+        assert_eq!(round_to_step(exact, 300_000, 1), close);
         assert!(section.contains(&format!("`{line}`")), "{line}");
         for number in [other, exact, close] {
             assert!(section.contains(&grouped(number)), "{number}");

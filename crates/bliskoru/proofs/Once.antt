@@ -3,12 +3,10 @@ use Rattle.promise.specs.Once.{Once}
 use Rattle.promise.specs.laws.Once.{once}
 use Rattle.bliskoru.proofs.bliskoru_list.Reads as list
 use Rattle.bliskoru.proofs.bliskoru_list.Kinds as listK
-use Rattle.bliskoru.proofs.bliskoru_rounding_list.Reads as rounding-list
-use Rattle.bliskoru.proofs.bliskoru_rounding_list.Kinds as rounding-listK
 use Rattle.bliskoru.proofs.bliskoru_judge.Reads as judge
 use Rattle.bliskoru.proofs.bliskoru_judge.Kinds as judgeK
-use Rattle.bliskoru.proofs.bliskoru_closings.Reads as answers
-use Rattle.bliskoru.proofs.bliskoru_closings.Kinds as answersK
+use Rattle.bliskoru.proofs.bliskoru_answers.Reads as answers
+use Rattle.bliskoru.proofs.bliskoru_answers.Kinds as answersK
 use Rattle.bliskoru.proofs.bliskoru_tape_to_sheet.Reads as tape-to-sheet
 use Rattle.bliskoru.proofs.bliskoru_tape_to_sheet.Kinds as tape-to-sheetK
 use Rattle.bliskoru.proofs.bliskoru_sheet_to_tape.Reads as sheet-to-tape
@@ -37,12 +35,6 @@ list-once κs a x y s t p q = once p.0 q.0
 
 pub list-leaves-once : Once 2 listK.ps listK.r list.Post (λ κs x s. s.1.0.now)
 list-leaves-once κs a x y s t p q = once p.1 q.1
-
-pub rounding-list-once : Once 2 rounding-listK.ps rounding-listK.r rounding-list.Post (λ κs x s. x)
-rounding-list-once κs a x y s t p q = once p.0 q.0
-
-pub rounding-list-leaves-once : Once 2 rounding-listK.ps rounding-listK.r rounding-list.Post (λ κs x s. s.1.0.now)
-rounding-list-leaves-once κs a x y s t p q = once p.1 q.1
 
 pub judge-once : Once 2 judgeK.ps judgeK.r judge.Post (λ κs x s. x)
 judge-once κs a x y s t p q = once p.0 q.0

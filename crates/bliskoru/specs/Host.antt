@@ -16,7 +16,7 @@ use Rattle.filled_buffer.specs.declared.Filled.TheVariants as Filled
 use Rattle.text.specs.declared.Put.{Put}
 use Rattle.text.specs.declared.Put.TheVariants.{Next, Full}
 
--- ---- a list: its length; no list has length 0
+-- ---- the list: its length; no list has length 0
 
 abbrev pub length_or0 : Put → ℕ
 length_or0 (Next n) = n
@@ -32,18 +32,18 @@ abbrev pub verdict_byte : ℕ → Verdict → ℕ
 verdict_byte old (accepts day) = old
 verdict_byte old (refuses-at number at) = at
 
--- ---- the six answers: a row each of five numbers, in pricing order
+-- ---- the six answers: a row each of three numbers, in pricing order
 
 abbrev pub method_number : Method → ℕ
 method_number Vwap = 1
 method_number Twap = 2
 
--- the method, or the refusal's number, 13 to 15; the close in cents; the lots; what rounding took; the divisor. Of a refusal all but the lots are 0
-abbrev pub row_of : Told → List ℤ
-row_of (close method m lots remainder divisor) = pos (method_number method) ∷ pos m ∷ pos lots ∷ remainder ∷ pos divisor ∷ []
-row_of (refused number lots) = pos number ∷ pos 0 ∷ pos lots ∷ pos 0 ∷ pos 0 ∷ []
+-- the method, or the refusal's number, 13 to 15; the close in cents, 0 where there is none; the lots
+abbrev pub row_of : Told → List ℕ
+row_of (close method m lots) = method_number method ∷ m ∷ lots ∷ []
+row_of (refused number lots) = number ∷ 0 ∷ lots ∷ []
 
-abbrev pub rows_of : List Told → List ℤ
+abbrev pub rows_of : List Told → List ℕ
 rows_of [] = []
 rows_of (t ∷ ts) = row_of t ++ rows_of ts
 
@@ -55,7 +55,7 @@ abbrev pub answers_byte : ℕ → Answers → ℕ
 answers_byte old (six day tolds) = old
 answers_byte old (none-priced number at) = at
 
-abbrev pub answers_rows : List ℤ → Answers → List ℤ
+abbrev pub answers_rows : List ℕ → Answers → List ℕ
 answers_rows old (six day tolds) = rows_of tolds
 answers_rows old (none-priced number at) = old
 

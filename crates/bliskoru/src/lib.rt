@@ -1,7 +1,7 @@
-// What a C or a Rust program links: a sheet's two lists, its judgement and its six answers, a text turned into a sheet and back, a sheet moved to the other
+// What a C or a Rust program links: a sheet's list, its judgement and its six answers, a text turned into a sheet and back, a sheet moved to the other
 // header, and single fields read and written, as plain numbers in lent memory. Each function takes a covered one's answer apart; a refusal's number is
 // handed back, and 0 says yes.
-ghost use Rattle.std.specs.Prelude.{◌≡◌, ◌∷◌, [], ◌++◌, ◌≤◌, pos};
+ghost use Rattle.std.specs.Prelude.{◌≡◌, ◌∷◌, [], pos};
 ghost use Rattle.std.proofs.Math.ListN as ListN;
 ghost use Rattle.text.specs.Over.{put_place, put_buffer};
 ghost use Rattle.field.specs.Reading.{read_field};
@@ -9,10 +9,8 @@ ghost use Rattle.field.specs.Writing.{written, buffer_after};
 ghost use Rattle.field.specs.declared.Field.TheVariants as F;
 ghost use Rattle.field.specs.declared.Form.TheVariants as Form;
 ghost use Rattle.sheet.specs.Judgement.{judge_sheet};
-ghost use Rattle.price_rules.specs.Closing.{refused, answers_of};
+ghost use Rattle.price_rules.specs.Closing.{answers_of};
 ghost use Rattle.price_rules.specs.Says.{answer_says, closings_say};
-ghost use Rattle.six_answers.specs.laws.Sizes.{Within, AllWithin};
-ghost use Rattle.list_lines.specs.declared.Kind.TheVariants.{Closing, Rounding};
 ghost use Rattle.list_lines.specs.Listing.{list_of};
 ghost use Rattle.filled_buffer.specs.Filling.{buffer_with, filled};
 ghost use Rattle.header_mover.specs.Moving.{to_new, to_old};
@@ -27,7 +25,7 @@ use field_reader::read_field;
 use field_writer::write_field;
 use filled_buffer::Filled;
 use header_mover::{to_new_header, to_old_header};
-use list::{closing_list, rounding_list};
+use list::closing_list;
 use price_rules::{Answer, Closed, Method, SixAnswers};
 use sheet::{Judged, judge_sheet};
 use six_answers::closings;
@@ -35,32 +33,16 @@ use tape_reader::tape_to_sheet;
 use tape_writer::sheet_to_tape;
 use text::Put;
 
-// A list's length, or 0 where there is no room for it.
-fn length_or_0(put: Put) -> usize
-    ensures { result ≡ length_or0 put }
+// The list's length, or 0 where the buffer has no room for it and is as it was.
+#[unsafe(no_mangle)]
+pub extern "C" fn bliskoru_list(sheet: &[u8], out: &mut [u8]) -> usize
+    ensures value { result ≡ length_or0 (put_place out.old 0 (list_of sheet.now)) }
+    ensures out_after { out.new ≡ put_buffer out.old 0 (list_of sheet.now) }
 {
-    match put {
+    match closing_list(sheet, out) {
         Put::Next(n) => n,
         Put::Full => 0,
     }
-}
-
-// The closing list's length, or 0 where the buffer has no room for it and is as it was.
-#[unsafe(no_mangle)]
-pub extern "C" fn bliskoru_list(sheet: &[u8], out: &mut [u8]) -> usize
-    ensures value { result ≡ length_or0 (put_place out.old 0 (list_of Closing sheet.now)) }
-    ensures out_after { out.new ≡ put_buffer out.old 0 (list_of Closing sheet.now) }
-{
-    length_or_0(closing_list(sheet, out))
-}
-
-// The same of the list with what rounding took.
-#[unsafe(no_mangle)]
-pub extern "C" fn bliskoru_rounding_list(sheet: &[u8], out: &mut [u8]) -> usize
-    ensures value { result ≡ length_or0 (put_place out.old 0 (list_of Rounding sheet.now)) }
-    ensures out_after { out.new ≡ put_buffer out.old 0 (list_of Rounding sheet.now) }
-{
-    length_or_0(rounding_list(sheet, out))
 }
 
 // 0 where the sheet is accepted; else the refusal's number, and its byte in `at`.
@@ -78,17 +60,15 @@ pub extern "C" fn bliskoru_judge(sheet: &[u8], at: &mut usize) -> u8
     }
 }
 
-// A contract's answer as numbers: method or refusal, close, lots, remainder, divisor.
+// A contract's answer as numbers: method or refusal, close, lots.
 #[derive(Drop)]
 pub struct Row {
-    pub told: i64,
-    pub close: i64,
-    pub lots: i64,
-    pub remainder: i64,
-    pub divisor: i64,
+    pub told: u64,
+    pub close: u64,
+    pub lots: u64,
 }
 
-fn method_number(method: Method) -> u8
+fn method_number(method: Method) -> u64
     ensures { result ≡ method_number method }
 {
     match method {
@@ -97,21 +77,7 @@ fn method_number(method: Method) -> u8
     }
 }
 
-fn refused_row(number: u8, lots: u64) -> Row
-    requires { lots ≤ 2995920000 }
-    ensures { row_says result ≡ row_of (refused number lots) }
-{
-    Row {
-        told: number as i64,
-        close: 0,
-        lots: lots as i64,
-        remainder: 0,
-        divisor: 0,
-    }
-}
-
 fn row_of(answer: Answer) -> Row
-    requires { Within (answer_says answer) }
     ensures { row_says result ≡ row_of (answer_says answer) }
 {
     match answer {
@@ -119,61 +85,30 @@ fn row_of(answer: Answer) -> Row
             method,
             close,
             lots,
-            remainder,
-            divisor,
         } => Row {
-            told: method_number(method) as i64,
-            close: close as i64,
-            lots: lots as i64,
-            remainder,
-            divisor: divisor as i64,
+            told: method_number(method),
+            close: close as u64,
+            lots,
         },
-        Answer::NoReference(lots) => refused_row(13, lots),
-        Answer::OutOfRange(lots) => refused_row(14, lots),
-        Answer::NotReached => refused_row(15, 0),
+        Answer::NoReference(lots) => Row {
+            told: 13,
+            close: 0,
+            lots,
+        },
+        Answer::OutOfRange(lots) => Row {
+            told: 14,
+            close: 0,
+            lots,
+        },
+        Answer::NotReached => Row {
+            told: 15,
+            close: 0,
+            lots: 0,
+        },
     }
 }
 
-// The numbers of six rows in turn.
-fn in_turn(a: Row, b: Row, c: Row, d: Row, e: Row, f: Row) -> [i64; 30]
-    ensures { result ≡ row_says a ++ row_says b ++ row_says c ++ row_says d ++ row_says e ++ row_says f }
-{
-    [
-        a.told,
-        a.close,
-        a.lots,
-        a.remainder,
-        a.divisor,
-        b.told,
-        b.close,
-        b.lots,
-        b.remainder,
-        b.divisor,
-        c.told,
-        c.close,
-        c.lots,
-        c.remainder,
-        c.divisor,
-        d.told,
-        d.close,
-        d.lots,
-        d.remainder,
-        d.divisor,
-        e.told,
-        e.close,
-        e.lots,
-        e.remainder,
-        e.divisor,
-        f.told,
-        f.close,
-        f.lots,
-        f.remainder,
-        f.divisor,
-    ]
-}
-
-fn rows_of(six: SixAnswers) -> [i64; 30]
-    requires { AllWithin six }
+fn rows_of(six: SixAnswers) -> [u64; 18]
     ensures { result ≡ rows_of (closings_say six) }
 {
     let three = six.three;
@@ -182,19 +117,21 @@ fn rows_of(six: SixAnswers) -> [i64; 30]
     let m4 = six.m4;
     let m1 = six.m1;
     let cash = six.cash;
-    in_turn(
-        row_of(three),
-        row_of(m3),
-        row_of(m2),
-        row_of(m4),
-        row_of(m1),
-        row_of(cash),
-    )
+    let a = row_of(three);
+    let b = row_of(m3);
+    let c = row_of(m2);
+    let d = row_of(m4);
+    let e = row_of(m1);
+    let f = row_of(cash);
+    [
+        a.told, a.close, a.lots, b.told, b.close, b.lots, c.told, c.close, c.lots, d.told, d.close,
+        d.lots, e.told, e.close, e.lots, f.told, f.close, f.lots,
+    ]
 }
 
-// 0 and the six answers, five numbers each; or the sheet's refusal: its number, and its byte in `at`.
+// 0 and the six answers, three numbers each; or the sheet's refusal: its number, and its byte in `at`.
 #[unsafe(no_mangle)]
-pub extern "C" fn bliskoru_closings(sheet: &[u8], answers: &mut [i64; 30], at: &mut usize) -> u8
+pub extern "C" fn bliskoru_answers(sheet: &[u8], answers: &mut [u64; 18], at: &mut usize) -> u8
     ensures value { result ≡ answers_number (answers_of sheet.now) }
     ensures answers_after { answers.new ≡ answers_rows answers.old (answers_of sheet.now) }
     ensures at_after { at.new ≡ answers_byte at.old (answers_of sheet.now) }

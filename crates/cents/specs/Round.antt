@@ -1,5 +1,5 @@
--- RULES 8: N/D rounded to a step u, a half up, and what that took. N is any whole number; D and u are above 0 in every law.
-use Rattle.std.specs.Prelude.{◌≡◌, ℕ, ◌+◌, ◌*◌, ◌≤◌, ℤ, pos, neg_ℤ, ◌+ℤ◌, ◌-ℤ◌, ◌*ℤ◌, ◌≤ℤ◌, ◌<ℤ◌}
+-- RULES 8: N/D rounded to a step u, a half up. N is any whole number; D and u are above 0 in every law.
+use Rattle.std.specs.Prelude.{◌≡◌, ℕ, ◌+◌, ◌*◌, ◌≤◌, ℤ, pos, ◌+ℤ◌, ◌*ℤ◌, ◌≤ℤ◌}
 use Rattle.std.specs.Int.Signed.{shr_z}
 
 -- z / m rounded down, below zero too: the number of whole m in z
@@ -14,18 +14,9 @@ limit n d u = pos 2 *ℤ n +ℤ pos (d * u)
 unfoldable pub round : ℤ → ℕ → ℕ → ℤ
 round n d u = pos u *ℤ floor (limit n d u) (2 * d * u)
 
--- the remainder of a rounded number m: m times D, less N
-abbrev pub remainder : ℤ → ℕ → ℤ → ℤ
-remainder n d m = pos d *ℤ m -ℤ n
-
 -- RULES 8 as it is worded, which `round` is proved to meet: m is the greatest multiple of u for which 2Dm is at most 2N + Du
 pub record Greatest (n : ℤ) (d u : ℕ) (m : ℤ) : Type 0 where
   pub steps : ℤ
   pub multiple : m ≡ pos u *ℤ steps
   pub under : (pos (2 * d) *ℤ m) ≤ℤ limit n d u
   pub most : (k : ℤ) → (pos (2 * d) *ℤ (pos u *ℤ k)) ≤ℤ limit n d u → (pos u *ℤ k) ≤ℤ m
-
--- how far rounding moves: −Du < 2r ≤ Du of the remainder r, since a half goes up
-pub record Near (d u : ℕ) (r : ℤ) : Type 0 where
-  pub above : neg_ℤ (pos (d * u)) <ℤ (pos 2 *ℤ r)
-  pub most : (pos 2 *ℤ r) ≤ℤ pos (d * u)

@@ -1,25 +1,23 @@
-// Rounding to a price: a sum of cents over its divisor, to a step, halves up, what that took, and whether it is a close. Everything that prices a
-// contract ends here. specs/ has the number itself, specs/laws its laws and those of signed whole numbers that the other crates use. Hosts do not
-// call it: it asks for a divisor that no sheet exceeds.
-ghost use Rattle.std.specs.Prelude.{◌≡◌, ◌+◌, ◌^◌, ◌≤◌, ◌<◌, pos};
-ghost use Rattle.cents.specs.Round.{remainder};
-ghost use Rattle.cents.specs.Close.{close_of, close_from, means};
+// Rounding to a price: a sum of cents over its divisor, to a step, halves up, and whether that is a close. Everything that prices a
+// contract ends here. specs/ has the number itself, specs/laws its laws and those of signed whole numbers that the other crates use.
+ghost use Rattle.std.specs.Prelude.{◌≡◌, ◌+◌, ◌^◌, ◌<◌, pos};
+ghost use Rattle.cents.specs.Round.{round};
+ghost use Rattle.cents.specs.Close.{close_of, means};
 ghost use Rattle.cents.specs.laws.Close.{nearest};
 
 // The highest close, in cents.
 const HIGHEST: u64 = 99_999_999;
 
-// A rounded price in cents, where it is a close, and its remainder.
+// A rounded price in cents, where it is a close.
 #[derive(Drop)]
 pub enum Rounded {
-    Close(u32, i64),
+    Close(u32),
     OutOfRange,
 }
 
 // n / d to step u. A sum below zero rounds to no close, so the rest goes by unsigned numbers.
 pub fn rounded_close(n: i64, d: u64, u: u32) -> Rounded
-    requires { d ≤ 2 ^ 36 }
-    ensures { means result ≡ close_from n d u }
+    ensures { means result ≡ close_of (round n d u) }
 {
     if n < 0 {
         return Rounded::OutOfRange;
@@ -30,8 +28,8 @@ pub fn rounded_close(n: i64, d: u64, u: u32) -> Rounded
 // The same of a sum that is not negative. d * u could wrap, so n is divided by d first: what that cuts off moves no step.
 // Nearly every step is 1 cent: with the constant there is no second division.
 fn rounded_sum(n: u64, d: u64, u: u32) -> Rounded
-    requires { (n < 2 ^ 63) × (d ≤ 2 ^ 36) }
-    ensures { means result ≡ close_from (pos n) d u }
+    requires { n < 2 ^ 63 }
+    ensures { means result ≡ close_of (round (pos n) d u) }
 {
     if d == 0 {
         return Rounded::OutOfRange;
@@ -45,9 +43,9 @@ fn rounded_sum(n: u64, d: u64, u: u32) -> Rounded
         return Rounded::OutOfRange;
     }
     if s == 1 {
-        return close_of(n, d, steps(twice, 1));
+        return close_of(steps(twice, 1));
     }
-    close_of(n, d, steps(twice, s) * s)
+    close_of(steps(twice, s) * s)
 }
 
 // How many steps of s are nearest to half of twice: the whole ones in it, and one more where half a step or more is left.
@@ -60,10 +58,9 @@ fn steps(twice: u64, s: u64) -> u64
     if left < s { whole } else { whole + 1 }
 }
 
-// m cents as a close, with what rounding n / d to it took.
-fn close_of(n: u64, d: u64, m: u64) -> Rounded
-    requires { (n < 2 ^ 63) × (d ≤ 2 ^ 36) }
-    ensures { means result ≡ close_of (pos m) (remainder (pos n) d (pos m)) }
+// m cents as a close.
+fn close_of(m: u64) -> Rounded
+    ensures { means result ≡ close_of (pos m) }
 {
     if m == 0 {
         return Rounded::OutOfRange;
@@ -71,7 +68,5 @@ fn close_of(n: u64, d: u64, m: u64) -> Rounded
     if HIGHEST < m {
         return Rounded::OutOfRange;
     }
-    let times = (d * m) as i64;
-    let sum = n as i64;
-    Rounded::Close(m as u32, times - sum)
+    Rounded::Close(m as u32)
 }

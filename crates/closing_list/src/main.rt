@@ -1,14 +1,15 @@
 // Reads one sheet from standard input to its end and prints its closing list.
 use libc::{STDIN_FILENO, STDOUT_FILENO};
 use list::closing_list;
-use program_output::write_part;
 use text::Put;
 
-// Prints the list of a sheet. 512 bytes hold every closing list (the law `list-fits`).
+// Prints the list of a sheet. 512 bytes hold every list (the law `list-fits`).
 fn print_list(sheet: &[u8]) {
     let mut out = [0u8; 512];
     match closing_list(sheet, &mut out) {
-        Put::Next(n) => write_part(STDOUT_FILENO, &out, n),
+        Put::Next(n) => {
+            io::write_all(STDOUT_FILENO, &out[..n]);
+        }
         Put::Full => {}
     }
 }

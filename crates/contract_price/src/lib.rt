@@ -5,7 +5,7 @@ ghost use Rattle.twap.specs.Span.{span_says};
 ghost use Rattle.price_rules.specs.Closing.{twap_by, answered};
 ghost use Rattle.price_rules.specs.laws.Adding.{Bounded, paired};
 ghost use Rattle.price_rules.specs.Says.{answer_says};
-ghost use Rattle.contract_price.specs.laws.Numbers.{Summable, Divisible, Lent, mean_by, row_by, step_by};
+ghost use Rattle.contract_price.specs.laws.Numbers.{Summable, Lent, mean_by, row_by, step_by};
 
 use cents::{Rounded, rounded_close};
 use market::{MINIMUM_LOTS, WINDOW, contract_by, is_marked, is_named, leg_of, step_by};
@@ -50,9 +50,8 @@ fn mean_by_lots(marks: u16, closes: &[u32], i: u8, s: Sum, span: Summed) -> Mean
     }
 }
 
-// The rounded mean as an answer, with what rounding took.
+// The rounded mean as an answer.
 fn rounded(mean: Mean, lots: u64, step: u32) -> Answer
-    requires { Divisible mean }
     ensures { answer_says result ≡ answered step lots mean }
 {
     match mean {
@@ -61,12 +60,10 @@ fn rounded(mean: Mean, lots: u64, step: u32) -> Answer
             sum,
             weight,
         } => match rounded_close(sum, weight, step) {
-            Rounded::Close(close, remainder) => Answer::Priced {
+            Rounded::Close(close) => Answer::Priced {
                 method,
                 close,
                 lots,
-                remainder,
-                divisor: weight,
             },
             Rounded::OutOfRange => Answer::OutOfRange(lots),
         },

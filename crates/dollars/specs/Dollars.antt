@@ -1,6 +1,6 @@
 -- TAPE 4, prices: dollars with two decimals, a minus before a negative one.
-use Rattle.std.specs.Prelude.{ℕ, ◌+◌, ◌-◌, ◌*◌, ◌/◌, ◌%◌, Bool, cond, List, [], ◌∷◌, ◌++◌, eqb, ℤ, pos, neg_ℤ, nat_abs, length, get_or, take, drop}
-use Rattle.text.specs.Decimal.{digit, decimal, sign_of}
+use Rattle.std.specs.Prelude.{ℕ, ◌+◌, ◌-◌, ◌*◌, ◌/◌, ◌%◌, Bool, cond, List, [], ◌∷◌, ◌++◌, eqb, ℤ, pos, negsuc, neg_ℤ, nat_abs, length, get_or, take, drop}
+use Rattle.text.specs.Decimal.{digit, decimal}
 use Rattle.numerals.specs.declared.Number.{Number}
 use Rattle.numerals.specs.declared.Number.TheVariants as N
 use Rattle.numerals.specs.Numerals.{is_digit, number, given}
@@ -46,6 +46,10 @@ price s =
 
 abbrev pub amount : ℕ → List ℕ
 amount n = decimal (n / 100) ++ 46 ∷ digit (n / 10 % 10) ∷ digit (n % 10) ∷ []
+
+unfoldable pub sign_of : ℤ → List ℕ
+sign_of (pos n) = []
+sign_of (negsuc n) = 45 ∷ []
 
 abbrev pub price_text : ℤ → List ℕ
 price_text z = sign_of z ++ amount (nat_abs z)

@@ -3,10 +3,9 @@
 --     closings-lift    `closings` of a sheet and of the sheet with 3M lifted
 --     closings-turn    `closings` of a sheet and of the sheet with one spread turned round
 --     closings-named   `closings` of a sheet whose header says that 3M is a monthly contract
---     closings-took    what rounding took, of each answer of `closings`
 -- Assumes nothing. Every entry of a slice of bytes is a byte: `Bytes` says so.
 use Prim.Native.Nat.{ℕ, ◌≤◌, ◌<◌}
-use mathlib.Core.Path.{◌≡◌, sym, ap, subst, ◌∙◌}
+use mathlib.Core.Path.{◌≡◌, refl, sym, ap, subst, ◌∙◌}
 use mathlib.Core.Bool.{true}
 use mathlib.Core.List.{List}
 use mathlib.Core.Logic.{◌⊎◌}
@@ -19,21 +18,21 @@ use Rattle.wire.specs.Big.{Bytes}
 use Rattle.field.specs.laws.Field.{clash}
 use Rattle.sheet.specs.declared.Day.{Day}
 use Rattle.sheet.specs.Fields.{fields_of, Each}
+use Rattle.sheet.specs.Judgement.{Verdict, accepts, refuses-at, judge_sheet}
 use Rattle.price_rules.specs.declared.SixAnswers.{SixAnswers}
 use Rattle.price_rules.specs.declared.Closed.{Closed}
 use Rattle.price_rules.specs.declared.Closed.TheVariants as C
-use Rattle.price_rules.specs.Closing.{Told, refused, six, known_at, answers_of}
+use Rattle.price_rules.specs.Closing.{Told, refused, six, none-priced, answers_by, answers_of}
 use Rattle.price_rules.specs.Says.{closings_say, closed_says}
 use Rattle.price_rules.specs.laws.Says.{closed-once}
 use Rattle.six_answers.proofs.closings.Reads as closings
 use Rattle.six_answers.proofs.closings.Kinds as closingsK
 use Rattle.field.specs.Judging.{third_of}
-use Rattle.market.specs.Market.{3M, step_of, named}
-use Rattle.laws.specs.Demand.{steps, lifted, Liftable, answer_at, Moves, turned, turned_day, priced_as, Took, figures_in}
-use Rattle.laws.specs.laws.Lift.{shifts, six-of}
+use Rattle.market.specs.Market.{3M, named}
+use Rattle.laws.specs.Demand.{steps, lifted, Liftable, answer_at, Moves, turned, turned_day}
+use Rattle.laws.specs.laws.Lift.{shifts}
 use Rattle.laws.specs.laws.Turning.{turns}
 use Rattle.laws.specs.laws.Named.{named-agrees}
-use Rattle.laws.specs.laws.Rounding.{rounding-took}
 
 -- `closings`, lent a sheet that holds s, may answer x
 pub record Closes (s : List ℕ) (x : Closed) : Type 0 where
@@ -54,6 +53,14 @@ six-day day other ts us e = cc
 
 pub six-answers : (day other : Day) (ts us : List Told) → six day ts ≡ six other us → ts ≡ us
 six-answers day other ts us e = cc
+
+accepted : (s : List ℕ) (day : Day) (ts : List Told) → answers_of s ≡ six day ts → judge_sheet s ≡ accepts day
+unfolding answers_of
+accepted s day ts e = by (judge_sheet s) refl
+  where
+    by : (v : Verdict) → judge_sheet s ≡ v → judge_sheet s ≡ accepts day
+    by (accepts other) k = k ∙ ap accepts (six-day other day _ ts (sym (ap (answers_by (fields_of s)) k) ∙ e))
+    by (refuses-at number at) k = let z : none-priced number at ≡ six day ts = sym (ap (answers_by (fields_of s)) k) ∙ e in clash cc
 
 -- a result that says six answers has them
 pub record HasSix (y : Closed) (day : Day) (ts : List Told) : Type 0 where
@@ -77,7 +84,7 @@ pub closings-lift : {s : List ℕ} {day : Day} {r : SixAnswers} {y : Closed} (k 
     → Closes s (C.Six day r) → Closes (lifted (steps day k) s) y → LiftedTo (steps day k) day r y
 closings-lift {s} {day} {r} {y} k b l before after =
     let was = sym (says before) in
-    let law = shifts s day k b (six-of s day (closings_say r) was).0 l in
+    let law = shifts s day k b (accepted s day (closings_say r) was) l in
     let to = has-six y day law.after (says after ∙ law.is-now) in
     let from : law.before ≡ closings_say r = six-answers day day law.before (closings_say r) (sym law.was ∙ was) in
     record { answers = to.answers; is = to.is; moves = subst (λ (ts : List Told). Moves (steps day k) ts (closings_say to.answers)) from (subst (Moves (steps day k) law.before) (sym to.say) law.moves) }
@@ -87,7 +94,7 @@ pub closings-turn : {s : List ℕ} {day : Day} {r : SixAnswers} {y : Closed} (i 
     → Closes s (C.Six day r) → Closes (turned i s) y → y ≡ C.Six (turned_day i day) r
 closings-turn {s} {day} {r} {y} i b low high before after =
     let was = sym (says before) in
-    let law = turns s day i b (six-of s day (closings_say r) was).0 low high in
+    let law = turns s day i b (accepted s day (closings_say r) was) low high in
     let same : law.answers ≡ closings_say r = six-answers day day law.answers (closings_say r) (sym law.was ∙ was) in
     closed-once (says after ∙ law.is-now) (ap (six (turned_day i day)) (sym same))
 
@@ -95,9 +102,3 @@ closings-turn {s} {day} {r} {y} i b low high before after =
 pub closings-named : {s : List ℕ} {day : Day} {r : SixAnswers} (c : ℕ) → c < 6 → named (third_of day.form) c ≡ true → Closes s (C.Six day r)
     → (answer_at (closings_say r) c ≡ answer_at (closings_say r) 3M) ⊎ (answer_at (closings_say r) c ≡ refused 15 0)
 closings-named {s} {day} {r} c low n told = named-agrees s day (closings_say r) c low (sym (says told)) n
-
--- close times divisor is the sum that was divided and the remainder, which is near
-pub closings-took : {s : List ℕ} {day : Day} {r : SixAnswers} (c : ℕ) → c < 6 → Closes s (C.Six day r) →
-    let own = priced_as (third_of day.form) c in
-    Took (figures_in s day) (known_at (figures_in s day) own).closes own (step_of day.metal own) (answer_at (closings_say r) c)
-closings-took {s} {day} {r} c low told = rounding-took s day (closings_say r) c low (sym (says told))

@@ -1,27 +1,22 @@
--- RULES 11, the laws as they are stated: with 3M's outright prices lifted by whole steps every priced contract is lifted by as much, its method,
--- lots, remainder and divisor and all refusals staying; with a spread turned round the six answers stay; the contract that 3M is has 3M's answer;
--- close times divisor is the sum that was divided and the remainder, which is at most half a step times the divisor. Lift, Turning, Named and Rounding
+-- RULES 11, the laws as they are stated: with 3M's outright prices lifted by whole steps every priced contract is lifted by as much, its method
+-- and lots and all refusals staying; with a spread turned round the six answers stay; the contract that 3M is has 3M's answer. Lift, Turning and Named
 -- prove what stands here.
 --     lifted, ShiftLaw     a sheet with 3M lifted, and the first law
 --     turned, TurnLaw      a sheet with one spread turned round, and the second law;  TwiceLaw    turned twice it is as it was
 --     BarredLaw            a barred spread turned round;  NamedLaw    3M a third Wednesday
---     RoundingLaw          what rounding took;  HalfLaw    never more than half a step either way
-use Rattle.std.specs.Prelude.{ℕ, ◌-◌, ◌*◌, ◌^◌, ◌≤◌, ◌<◌, ◌≡◌, true, cond, List, map, ◌⊎◌, ℤ, pos, nat_abs, ◌+ℤ◌, ◌*ℤ◌, get_or}
+use Rattle.std.specs.Prelude.{ℕ, ◌-◌, ◌^◌, ◌≤◌, ◌<◌, ◌≡◌, true, List, map, ◌⊎◌, ℤ, pos, ◌+ℤ◌, ◌*ℤ◌, get_or}
 use Rattle.std.specs.Int.Bits.{bit_xor}
 use Rattle.wire.specs.Big.{Bytes}
 use Rattle.field.specs.declared.Field.{Field}
 use Rattle.field.specs.declared.Field.TheVariants.{Header, PreviousClose, Trade, Quote, End}
 use Rattle.field.specs.Judging.{third_of, price_right, side_prices_right}
-use Rattle.market.specs.Market.{step_of, 3M, contract_of, named, barred, window_length}
-use Rattle.cents.specs.Round.{Near}
-use Rattle.twap.specs.Span.{sum}
+use Rattle.market.specs.Market.{step_of, 3M, named, barred}
 use Rattle.sheet.specs.declared.Day.{Day}
 use Rattle.sheet.specs.Fields.{fields_of, encode, Each}
 use Rattle.sheet.specs.Judgement.{accepts, judge_sheet}
 use Rattle.field.specs.Repriced.{changed, shift_price, shift_field, turn_field}
 use Rattle.price_rules.specs.declared.Method.{Method}
-use Rattle.price_rules.specs.declared.Method.TheVariants.{Vwap, Twap}
-use Rattle.price_rules.specs.Closing.{Figures, figures_of, implied_by, vwap_sum, lots_of, Told, close, refused, known_at, six, answers_of}
+use Rattle.price_rules.specs.Closing.{Told, close, refused, six, answers_of}
 
 -- ---- 3M lifted
 
@@ -44,14 +39,14 @@ Liftable δ (Trade time instrument price lots) = instrument ≡ 0 → price_righ
 Liftable δ (Quote time instrument sides bid offer) = instrument ≡ 0 → side_prices_right 0 sides (shift_price δ bid) (shift_price δ offer) ≡ true
 Liftable δ (End count) = Unit {0}
 
--- a contract's answer lifted by δ: the close is; method, lots, remainder and divisor stay; a refusal stays as it is
+-- a contract's answer lifted by δ: the close is, method and lots stay; a refusal stays as it is
 pub data Moved (δ : ℤ) : Told → Told → Type 0 where
-  lifts : {method : Method} {m m' lots divisor : ℕ} {remainder : ℤ} → pos m' ≡ pos m +ℤ δ → Moved δ (close method m lots remainder divisor) (close method m' lots remainder divisor)
+  lifts : {method : Method} {m m' lots : ℕ} → pos m' ≡ pos m +ℤ δ → Moved δ (close method m lots) (close method m' lots)
   stays : {number lots : ℕ} → Moved δ (refused number lots) (refused number lots)
 
 -- the answer is not 14
 abbrev pub InRange : Told → Type 0
-InRange (close method m lots remainder divisor) = Unit {0}
+InRange (close method m lots) = Unit {0}
 InRange (refused number lots) = number ≡ 14 → ⊥
 
 -- the answer of contract c in pricing order
@@ -119,48 +114,6 @@ BarredLaw = (s : List ℕ) (day : Day) (i : ℕ) → judge_sheet s ≡ accepts d
 
 -- ---- 3M a third Wednesday
 
--- the contract that 3M is has 3M's answer, method, close, lots, remainder and divisor, or is not reached
+-- the contract that 3M is has 3M's answer, method, close and lots, or is not reached
 abbrev pub NamedLaw : Type 0
 NamedLaw = (s : List ℕ) (day : Day) (answers : List Told) (c : ℕ) → c < 6 → answers_of s ≡ six day answers → named (third_of day.form) c ≡ true → (answer_at answers c ≡ answer_at answers 3M) ⊎ (answer_at answers c ≡ refused 15 0)
-
--- ---- what rounding took
-
--- the contract that a contract is priced as: 3M where 3M is that contract, else itself
-abbrev pub priced_as : ℕ → ℕ → ℕ
-priced_as third c = cond (named third c) 3M c
-
--- the sum of contract c of a day and what it is divided by, with the closes before it: by VWAP the sum of lots times implied price, by its lots; by TWAP
--- the sum of its indicator over the window, applied to the other leg's close as often as the window has milliseconds, by as many
-pub data Divided (day : Figures) (closes : List ℕ) (c : ℕ) : Method → ℕ → ℤ → ℕ → Type 0 where
-  by-lots : {lots : ℕ} → lots ≡ lots_of day (contract_of c) → Divided day closes c Vwap lots (vwap_sum day closes (contract_of c).first ((contract_of c).past - (contract_of c).first)) lots
-  by-time : {lots : ℕ} {s : ℤ} → lots ≡ lots_of day (contract_of c) → day.span (contract_of c).twap ≡ sum s → Divided day closes c Twap lots (implied_by day.marks closes (contract_of c).twap window_length s) window_length
-
--- of a close: times the divisor it is the sum that was divided and the remainder, and the remainder is as near as rounding to the step u has it
-pub record Exact (day : Figures) (closes : List ℕ) (c u : ℕ) (method : Method) (m lots : ℕ) (remainder : ℤ) (divisor : ℕ) : Type 0 where
-  pub sum : ℤ
-  pub divided : Divided day closes c method lots sum divisor
-  pub exact : pos (m * divisor) ≡ sum +ℤ remainder
-  pub near : Near divisor u remainder
-
--- of an answer; of a refusal nothing
-abbrev pub Took : Figures → List ℕ → ℕ → ℕ → Told → Type 0
-Took day closes c u (close method m lots remainder divisor) = Exact day closes c u method m lots remainder divisor
-Took day closes c u (refused number lots) = Unit {0}
-
--- the figures of an accepted sheet
-abbrev pub figures_in : List ℕ → Day → Figures
-figures_in s day = figures_of day.metal day.marks (third_of day.form) (fields_of s)
-
--- for each of the six answers of every sheet, by the contract that it is priced as: the closes before that one, and its step
-abbrev pub RoundingLaw : Type 0
-RoundingLaw = (s : List ℕ) (day : Day) (answers : List Told) (c : ℕ) → c < 6 → answers_of s ≡ six day answers →
-    let own = priced_as (third_of day.form) c in
-    Took (figures_in s day) (known_at (figures_in s day) own).closes own (step_of day.metal own) (answer_at answers c)
-
--- a remainder is never more than half a step times the divisor, either way
-abbrev pub HalfAtMost : ℕ → Told → Type 0
-HalfAtMost u (close method m lots remainder divisor) = 2 * nat_abs remainder ≤ divisor * u
-HalfAtMost u (refused number lots) = Unit {0}
-
-abbrev pub HalfLaw : Type 0
-HalfLaw = (s : List ℕ) (day : Day) (answers : List Told) (c : ℕ) → c < 6 → answers_of s ≡ six day answers → HalfAtMost (step_of day.metal (priced_as (third_of day.form) c)) (answer_at answers c)

@@ -6,4 +6,3 @@ pub mod Lift
 pub mod Turn
 pub mod Turning
 pub mod Named
-pub mod Rounding

@@ -1,9 +1,9 @@
 // A field's line, with its line feed, at a place of a lent buffer, item by item. Hosts do not call it: it asks that the buffer has room for the line.
-ghost use Rattle.std.specs.Prelude.{◌≡◌, ◌∷◌, ◌++◌, ◌+◌, ◌≤◌, length};
+ghost use Rattle.std.specs.Prelude.{◌≡◌, ◌∷◌, ◌++◌, ◌+◌, ◌≤◌, length, take};
 ghost use Rattle.text.specs.Over.{over};
 ghost use Rattle.text.specs.Decimal.{decimal};
 ghost use Rattle.dollars.specs.Dollars.{amount, price_text};
-ghost use Rattle.names.specs.Names.{instrument_name};
+ghost use Rattle.names.specs.Names.{metal_name, instrument_name};
 ghost use Rattle.line_reader.specs.Lines.{side_text};
 ghost use Rattle.line_reader.specs.laws.Pieces.{form_text};
 ghost use Rattle.tape.specs.Tape.{line_text};
@@ -11,9 +11,50 @@ ghost use Rattle.field.specs.declared.Field.TheVariants as F;
 ghost use Rattle.text.specs.laws.Putting.{Puts};
 
 use field::{Field, Form, Price};
-use names::{put_instrument, put_metal};
-use text::{put_number, put_piece};
+use names::{Name, instrument_name, metal_name};
+use text::{Put, put_bytes};
 use wire::bits_of;
+
+// Bytes at a place; the place behind them.
+fn put(buf: &mut [u8], at: usize, s: &[u8]) -> usize
+    ensures { Puts buf.old at s.now result buf.new }
+{
+    match put_bytes(buf, at, s) {
+        Put::Next(next) => next,
+        Put::Full => at,
+    }
+}
+
+// A number in decimal.
+fn put_number(buf: &mut [u8], at: usize, n: u32) -> usize
+    ensures { Puts buf.old at (decimal n) result buf.new }
+{
+    let mut digits = [0u8; 20];
+    let k = io::decimal(n as u64, &mut digits);
+    put(buf, at, &digits[..k])
+}
+
+// A name that is held by value.
+fn put_name(buf: &mut [u8], at: usize, name: Name) -> usize
+    requires { name.len ≤ 9 }
+    ensures { Puts buf.old at (take name.len name.bytes) result buf.new }
+{
+    let store = name.bytes;
+    let len = name.len;
+    put(buf, at, &store[..len])
+}
+
+fn put_metal(buf: &mut [u8], at: usize, metal: u8) -> usize
+    ensures { Puts buf.old at (metal_name metal) result buf.new }
+{
+    put_name(buf, at, metal_name(metal))
+}
+
+fn put_instrument(buf: &mut [u8], at: usize, instrument: u8) -> usize
+    ensures { Puts buf.old at (instrument_name instrument) result buf.new }
+{
+    put_name(buf, at, instrument_name(instrument))
+}
 
 // Dollars with two decimals and no sign.
 fn put_amount(buf: &mut [u8], at: usize, cents: u32) -> usize
@@ -22,8 +63,8 @@ fn put_amount(buf: &mut [u8], at: usize, cents: u32) -> usize
     let tens = (cents / 10 % 10) as u8;
     let units = (cents % 10) as u8;
     let end = [46u8, 48 + tens, 48 + units];
-    let next = put_number(buf, at, (cents / 100) as u64);
-    put_piece(buf, next, &end)
+    let next = put_number(buf, at, cents / 100);
+    put(buf, next, &end)
 }
 
 // A price, a minus before a negative one.
@@ -34,7 +75,7 @@ fn put_price(buf: &mut [u8], at: usize, price: Price) -> usize
     if bits < 2_147_483_648 {
         return put_amount(buf, at, bits);
     }
-    let next = put_piece(buf, at, b"-");
+    let next = put(buf, at, b"-");
     put_amount(buf, next, 4_294_967_295 - bits + 1)
 }
 
@@ -45,7 +86,7 @@ fn put_side(buf: &mut [u8], at: usize, present: bool, price: Price) -> usize
     if present {
         return put_price(buf, at, price);
     }
-    put_piece(buf, at, b"-")
+    put(buf, at, b"-")
 }
 
 // What a header's form puts behind its marks: a long one's third value.
@@ -55,8 +96,8 @@ fn put_form(buf: &mut [u8], at: usize, form: Form) -> usize
     match form {
         Form::Short => at,
         Form::Long(third) => {
-            let next = put_piece(buf, at, b",");
-            put_number(buf, next, third as u64)
+            let next = put(buf, at, b",");
+            put_number(buf, next, third as u32)
         }
     }
 }
@@ -64,30 +105,30 @@ fn put_form(buf: &mut [u8], at: usize, form: Form) -> usize
 fn put_header(buf: &mut [u8], at: usize, metal: u8, marks: u16, form: Form) -> usize
     ensures { Puts buf.old at (line_text (F.Header metal marks form)) result buf.new }
 {
-    let a = put_piece(buf, at, b"METAL,");
+    let a = put(buf, at, b"METAL,");
     let b = put_metal(buf, a, metal);
-    let c = put_piece(buf, b, b",");
-    let d = put_number(buf, c, marks as u64);
+    let c = put(buf, b, b",");
+    let d = put_number(buf, c, marks as u32);
     let e = put_form(buf, d, form);
-    put_piece(buf, e, b"\n")
+    put(buf, e, b"\n")
 }
 
 fn put_previous(buf: &mut [u8], at: usize, instrument: u8, price: Price) -> usize
     ensures { Puts buf.old at (line_text (F.PreviousClose instrument price)) result buf.new }
 {
-    let a = put_piece(buf, at, b"PREV,");
+    let a = put(buf, at, b"PREV,");
     let b = put_instrument(buf, a, instrument);
-    let c = put_piece(buf, b, b",");
+    let c = put(buf, b, b",");
     let d = put_price(buf, c, price);
-    put_piece(buf, d, b"\n")
+    put(buf, d, b"\n")
 }
 
 // The two items that trades and quotes begin with.
 fn put_stamp(buf: &mut [u8], at: usize, time: u32, instrument: u8) -> usize
     ensures { Puts buf.old at (decimal time ++ 44 ∷ instrument_name instrument) result buf.new }
 {
-    let a = put_number(buf, at, time as u64);
-    let b = put_piece(buf, a, b",");
+    let a = put_number(buf, at, time);
+    let b = put(buf, a, b",");
     put_instrument(buf, b, instrument)
 }
 
@@ -95,11 +136,11 @@ fn put_trade(buf: &mut [u8], at: usize, time: u32, instrument: u8, price: Price,
     ensures { Puts buf.old at (line_text (F.Trade time instrument price lots)) result buf.new }
 {
     let a = put_stamp(buf, at, time, instrument);
-    let b = put_piece(buf, a, b",TRADE,");
+    let b = put(buf, a, b",TRADE,");
     let c = put_price(buf, b, price);
-    let d = put_piece(buf, c, b",");
-    let e = put_number(buf, d, lots as u64);
-    put_piece(buf, e, b"\n")
+    let d = put(buf, c, b",");
+    let e = put_number(buf, d, lots as u32);
+    put(buf, e, b"\n")
 }
 
 fn put_quote(
@@ -114,11 +155,11 @@ fn put_quote(
     ensures { Puts buf.old at (line_text (F.Quote time instrument sides bid offer)) result buf.new }
 {
     let a = put_stamp(buf, at, time, instrument);
-    let b = put_piece(buf, a, b",QUOTE,");
+    let b = put(buf, a, b",QUOTE,");
     let c = put_side(buf, b, sides % 2 == 1, bid);
-    let d = put_piece(buf, c, b",");
+    let d = put(buf, c, b",");
     let e = put_side(buf, d, sides / 2 % 2 == 1, offer);
-    put_piece(buf, e, b"\n")
+    put(buf, e, b"\n")
 }
 
 // A field's line at a place, and the place behind it; an end has none.

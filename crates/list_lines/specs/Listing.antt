@@ -1,10 +1,8 @@
--- RULES 10: the texts that are printed for a sheet, the closing list and the rounding list.
+-- RULES 10: the text that is printed for a sheet.
 use Rattle.std.specs.Prelude.{ℕ, suc, cond, List, [], ◌∷◌, ◌++◌, leb, length}
-use Rattle.text.specs.Decimal.{decimal, signed}
+use Rattle.text.specs.Decimal.{decimal}
 use Rattle.price_rules.specs.Closing.{Told, close, refused, Answers, six, none-priced, answers_of}
 use Rattle.names.specs.Names.{metal_name, contract_name, method_name, refused_name, too_long_name}
-use Rattle.list_lines.specs.declared.Kind.{Kind}
-use Rattle.list_lines.specs.declared.Kind.TheVariants.{Closing, Rounding}
 
 -- the byte between items
 abbrev pub space : ℕ
@@ -26,33 +24,23 @@ refusal number n = refused_name ∷ decimal number ∷ decimal n ∷ []
 
 -- what stands behind the contract: method, close in cents and lots; or a refusal with the lots
 abbrev pub answer_items : Told → List (List ℕ)
-answer_items (close method cents lots remainder divisor) = method_name method ∷ decimal cents ∷ decimal lots ∷ []
+answer_items (close method cents lots) = method_name method ∷ decimal cents ∷ decimal lots ∷ []
 answer_items (refused number lots) = refusal number lots
 
--- what the rounding list has behind them: what rounding took, and the divisor; nothing behind a refusal
-abbrev pub rounding_items : Told → List (List ℕ)
-rounding_items (close method cents lots remainder divisor) = signed remainder ∷ decimal divisor ∷ []
-rounding_items (refused number lots) = []
-
--- by the list: the rounding list's are the closing list's and these
-abbrev pub items_of : Kind → Told → List (List ℕ)
-items_of Closing told = answer_items told
-items_of Rounding told = answer_items told ++ rounding_items told
-
 -- a contract's line: its name, and its answer
-unfoldable pub answer_line : Kind → ℕ → Told → List ℕ
-answer_line kind contract told = line (contract_name contract ∷ items_of kind told)
+unfoldable pub answer_line : ℕ → Told → List ℕ
+answer_line contract told = line (contract_name contract ∷ answer_items told)
 
 -- the contracts' lines in pricing order, from a contract on
-unfoldable pub answer_lines : Kind → ℕ → List Told → List ℕ
-answer_lines kind contract [] = []
-answer_lines kind contract (told ∷ more) = answer_line kind contract told ++ answer_lines kind (suc contract) more
+unfoldable pub answer_lines : ℕ → List Told → List ℕ
+answer_lines contract [] = []
+answer_lines contract (told ∷ more) = answer_line contract told ++ answer_lines (suc contract) more
 
 -- the metal's name on a line of its own, then the contracts; of a refused sheet its refusal alone
-unfoldable pub list_text : Kind → Answers → List ℕ
-list_text kind (six day tolds) = line (metal_name day.metal ∷ []) ++ answer_lines kind 0 tolds
-list_text kind (none-priced number at) = line (refusal number at)
+unfoldable pub list_text : Answers → List ℕ
+list_text (six day tolds) = line (metal_name day.metal ∷ []) ++ answer_lines 0 tolds
+list_text (none-priced number at) = line (refusal number at)
 
 -- a sheet of up to 65,536 bytes is listed; of a longer one the line says so
-unfoldable pub list_of : Kind → List ℕ → List ℕ
-list_of kind sheet = cond (leb (length sheet) 65536) (list_text kind (answers_of sheet)) (line (too_long_name ∷ []))
+unfoldable pub list_of : List ℕ → List ℕ
+list_of sheet = cond (leb (length sheet) 65536) (list_text (answers_of sheet)) (line (too_long_name ∷ []))

@@ -1,7 +1,8 @@
--- Any two outcomes that a function's contract permits are equal: the name by value, the place behind it and every byte of the lent buffer, the number.
--- Assumes nothing.
+-- Any two outcomes that a function's contract permits are equal: the name by value, the text's bytes with the name behind them, the number. Assumes
+-- nothing.
 use Rattle.promise.specs.Once.{Once}
 use Rattle.promise.specs.laws.Once.{once}
+use Rattle.text.specs.Held.{held}
 use Rattle.names.proofs.metal_name.Reads as metal-name
 use Rattle.names.proofs.metal_name.Kinds as metal-nameK
 use Rattle.names.proofs.contract_name.Reads as contract-name
@@ -14,8 +15,6 @@ use Rattle.names.proofs.put_metal.Reads as put-metal
 use Rattle.names.proofs.put_metal.Kinds as put-metalK
 use Rattle.names.proofs.put_contract.Reads as put-contract
 use Rattle.names.proofs.put_contract.Kinds as put-contractK
-use Rattle.names.proofs.put_instrument.Reads as put-instrument
-use Rattle.names.proofs.put_instrument.Kinds as put-instrumentK
 use Rattle.names.proofs.put_method.Reads as put-method
 use Rattle.names.proofs.put_method.Kinds as put-methodK
 use Rattle.names.proofs.is_name.Reads as is_name
@@ -37,29 +36,14 @@ instrument-name-once κs a x y s t p q = once p q
 pub method-name-once : Once 0 method-nameK.ps method-nameK.r method-name.Post (λ κs x s. x)
 method-name-once κs a x y s t p q = once p q
 
-pub put-metal-once : Once 1 put-metalK.ps put-metalK.r put-metal.Post (λ κs x s. x)
-put-metal-once κs a x y s t p q = once p.place q.place
+pub put-metal-once : Once 0 put-metalK.ps put-metalK.r put-metal.Post (λ κs x s. held x)
+put-metal-once κs a x y s t p q = once p q
 
-pub put-metal-leaves-once : Once 1 put-metalK.ps put-metalK.r put-metal.Post (λ κs x s. s.0.now)
-put-metal-leaves-once κs a x y s t p q = once p.buffer q.buffer
+pub put-contract-once : Once 0 put-contractK.ps put-contractK.r put-contract.Post (λ κs x s. held x)
+put-contract-once κs a x y s t p q = once p q
 
-pub put-contract-once : Once 1 put-contractK.ps put-contractK.r put-contract.Post (λ κs x s. x)
-put-contract-once κs a x y s t p q = once p.place q.place
-
-pub put-contract-leaves-once : Once 1 put-contractK.ps put-contractK.r put-contract.Post (λ κs x s. s.0.now)
-put-contract-leaves-once κs a x y s t p q = once p.buffer q.buffer
-
-pub put-instrument-once : Once 1 put-instrumentK.ps put-instrumentK.r put-instrument.Post (λ κs x s. x)
-put-instrument-once κs a x y s t p q = once p.place q.place
-
-pub put-instrument-leaves-once : Once 1 put-instrumentK.ps put-instrumentK.r put-instrument.Post (λ κs x s. s.0.now)
-put-instrument-leaves-once κs a x y s t p q = once p.buffer q.buffer
-
-pub put-method-once : Once 1 put-methodK.ps put-methodK.r put-method.Post (λ κs x s. x)
-put-method-once κs a x y s t p q = once p.place q.place
-
-pub put-method-leaves-once : Once 1 put-methodK.ps put-methodK.r put-method.Post (λ κs x s. s.0.now)
-put-method-leaves-once κs a x y s t p q = once p.buffer q.buffer
+pub put-method-once : Once 0 put-methodK.ps put-methodK.r put-method.Post (λ κs x s. held x)
+put-method-once κs a x y s t p q = once p q
 
 pub is-name-once : Once 2 is-nameK.ps is-nameK.r is_name.Post (λ κs x s. x)
 is-name-once κs a x y s t p q = once p q

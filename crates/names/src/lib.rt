@@ -1,11 +1,11 @@
-// The names on the closing list and on the tape, fixed byte strings: each by value, put into a lent buffer at a place, and found by its bytes.
+// The names on the closing list and on the tape, fixed byte strings: each by value, put behind a text, and found by its bytes.
 ghost use Rattle.std.specs.Prelude.{◌≡◌, ◌≤◌, length, take};
-ghost use Rattle.text.specs.Over.{Placed};
+ghost use Rattle.text.specs.Held.{held, ◌⊕◌};
 ghost use Rattle.names.specs.Names.{metal_name, contract_name, instrument_name, method_name, same, metal_in, instrument_in, in_name};
 
 use numerals::Number;
 use price_rules::Method;
-use text::put_piece;
+use text::Text;
 
 // A name by value: its bytes, and spaces behind them.
 #[derive(Drop)]
@@ -83,39 +83,33 @@ pub fn method_name(method: Method) -> Name
     }
 }
 
-// A name that is held by value, at a place.
-fn put_name(buf: &mut [u8], at: usize, name: Name) -> usize
+// A name behind a text.
+fn put_name(t: Text, name: Name) -> Text
     requires { name.len ≤ 9 }
-    ensures { Placed buf.old at (take name.len name.bytes) result buf.new }
+    ensures { held result ≡ held t ⊕ take name.len name.bytes }
 {
     let store = name.bytes;
     let len = name.len;
-    put_piece(buf, at, &store[..len])
+    t.put(&store[..len])
 }
 
-// Each of these four puts a name at a place.
-pub fn put_metal(buf: &mut [u8], at: usize, metal: u8) -> usize
-    ensures { Placed buf.old at (metal_name metal) result buf.new }
+// Each of these three puts a name behind a text.
+pub fn put_metal(t: Text, metal: u8) -> Text
+    ensures { held result ≡ held t ⊕ metal_name metal }
 {
-    put_name(buf, at, metal_name(metal))
+    put_name(t, metal_name(metal))
 }
 
-pub fn put_contract(buf: &mut [u8], at: usize, contract: usize) -> usize
-    ensures { Placed buf.old at (contract_name contract) result buf.new }
+pub fn put_contract(t: Text, contract: usize) -> Text
+    ensures { held result ≡ held t ⊕ contract_name contract }
 {
-    put_name(buf, at, contract_name(contract))
+    put_name(t, contract_name(contract))
 }
 
-pub fn put_instrument(buf: &mut [u8], at: usize, instrument: u8) -> usize
-    ensures { Placed buf.old at (instrument_name instrument) result buf.new }
+pub fn put_method(t: Text, method: Method) -> Text
+    ensures { held result ≡ held t ⊕ method_name method }
 {
-    put_name(buf, at, instrument_name(instrument))
-}
-
-pub fn put_method(buf: &mut [u8], at: usize, method: Method) -> usize
-    ensures { Placed buf.old at (method_name method) result buf.new }
-{
-    put_name(buf, at, method_name(method))
+    put_name(t, method_name(method))
 }
 
 // The bytes are the name.

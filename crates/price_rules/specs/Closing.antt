@@ -6,7 +6,8 @@ use Rattle.market.specs.declared.Leg.{Leg}
 use Rattle.market.specs.declared.Leg.TheVariants.{Outright, Over, Under}
 use Rattle.market.specs.declared.Contract.{Contract}
 use Rattle.market.specs.Market.{3M, minimum_lots, leg_of, contract_of, start_of, step_of, marked, named, window_length}
-use Rattle.cents.specs.Close.{close_from}
+use Rattle.cents.specs.Round.{round}
+use Rattle.cents.specs.Close.{close_of}
 use Rattle.cents.specs.Close as cents
 use Rattle.trades.specs.Trades.{Deal, trades_in, lots_in}
 use Rattle.twap.specs.Span.{Span, missing, sum, span_of}
@@ -90,19 +91,19 @@ mean_of day closes r =
 
 -- ---- the answers
 
--- a contract's answer: method, close and lots, what rounding took and the divisor; or a number with the lots
+-- a contract's answer: method, close and lots; or a number with the lots
 pub data Told : Type 0 where
-  close : Method → ℕ → ℕ → ℤ → ℕ → Told
+  close : Method → ℕ → ℕ → Told
   refused : ℕ → ℕ → Told
 
--- RULES 9: the rounded mean is a close, or 14; RULES 8: a close has its remainder and the divisor
-abbrev pub closed : Method → ℕ → ℕ → cents.Said → Told
-closed method lots divisor (cents.close m remainder) = close method m lots remainder divisor
-closed method lots divisor (cents.refused number) = refused number lots
+-- RULES 9: the rounded mean is a close, or 14
+abbrev pub closed : Method → ℕ → cents.Said → Told
+closed method lots (cents.close m) = close method m lots
+closed method lots (cents.refused number) = refused number lots
 
 -- RULES 8: rounded once, at the end; RULES 9, 13: no reference
 abbrev pub answered : ℕ → ℕ → Mean → Told
-answered step lots (Of method n d) = closed method lots d (close_from n d step)
+answered step lots (Of method n d) = closed method lots (close_of (round n d step))
 answered step lots Missing = refused 13 lots
 
 -- one contract, by its row and the closes before it
@@ -124,11 +125,11 @@ answer_by day k c =
 
 -- RULES 2 and 9: later contracts use the rounded close; a refused contract stops the list
 abbrev pub closes_with : List ℕ → ℕ → Told → List ℕ
-closes_with closes c (close method m lots remainder divisor) = set closes c m
+closes_with closes c (close method m lots) = set closes c m
 closes_with closes c (refused number lots) = closes
 
 abbrev pub is_refused : Told → Bool
-is_refused (close method m lots remainder divisor) = false
+is_refused (close method m lots) = false
 is_refused (refused number lots) = true
 
 abbrev pub learnt : Known → ℕ → Told → Known

@@ -9,7 +9,7 @@ use Rattle.price_rules.specs.Closing.{Told, close, refused, Answers, six, none-p
 
 -- a contract's answer: 13 and 14 with the lots, 15 with 0 lots
 abbrev pub answer_says : Answer → Told
-answer_says (Priced method m lots remainder divisor) = close method m lots remainder divisor
+answer_says (Priced method m lots) = close method m lots
 answer_says (NoReference lots) = refused 13 lots
 answer_says (OutOfRange lots) = refused 14 lots
 answer_says NotReached = refused 15 0

@@ -16,15 +16,13 @@ pub enum Method {
     Twap,
 }
 
-// A contract's answer. Lots are the sum over its VWAP instruments in the window; the remainder is what rounding took, over the divisor.
+// A contract's answer. Lots are the sum over its VWAP instruments in the window.
 #[derive(Drop)]
 pub enum Answer {
     Priced {
         method: Method,
         close: u32,
         lots: u64,
-        remainder: i64,
-        divisor: u64,
     },
     // Below the minimum of lots, and no reference at the window's first millisecond.
     NoReference(u64),

@@ -1,10 +1,11 @@
 // What programs that turn one file into another share: room for the longest sheet and the longest text, and what they write, the first bytes of a
-// buffer to a file or a refusal to standard error. Hosts don't call it.
+// buffer to a file or a text to standard error. Hosts don't call it.
 ghost use Rattle.std.specs.Prelude.{◌≡◌, length, replicate};
 
 use filled_buffer::Filled;
 use libc::{STDERR_FILENO, STDOUT_FILENO};
 use list_lines::put_refusal;
+use text::{Put, Text};
 
 // How many bytes a sheet may have.
 pub const LONGEST_SHEET: usize = 1_048_576;
@@ -35,17 +36,19 @@ pub fn write_part(file: i32, bytes: &[u8], n: usize) {
     }
 }
 
-// A refusal's line on standard error.
-fn say_refused(number: u8, place: usize) {
-    let mut line = [0u8; 64];
-    let n = put_refusal(&mut line, 0, number, place as u64);
-    write_part(STDERR_FILENO, &line, n);
+// A text on standard error.
+pub fn say(text: Text) {
+    let mut out = [0u8; 512];
+    match text.put_into(&mut out, 0) {
+        Put::Next(n) => write_part(STDERR_FILENO, &out, n),
+        Put::Full => {}
+    }
 }
 
 // What stands at the start of a buffer on standard output; or what refused it on standard error.
 pub fn hand_out(told: Filled, bytes: &[u8]) {
     match told {
         Filled::Whole(n) => write_part(STDOUT_FILENO, bytes, n),
-        Filled::Refused(number, place) => say_refused(number, place),
+        Filled::Refused(number, place) => say(put_refusal(Text::empty(), number, place as u64)),
     }
 }

@@ -3,10 +3,11 @@
 ghost use Rattle.std.specs.Prelude.{◌≡◌, ◌<◌, ◌≤◌, length};
 
 use libc::{STDIN_FILENO, STDOUT_FILENO};
-use list_lines::{Kind, put_lines};
-use price_rules::{Closed, SixAnswers};
+use list_lines::{put_lines, put_refusal};
+use price_rules::Closed;
 use sheet::{Judged, judge_sheet};
 use six_answers::closings;
+use text::Text;
 
 // A number behind a space.
 fn print_number(n: u64) {
@@ -14,26 +15,27 @@ fn print_number(n: u64) {
     io::print_decimal(STDOUT_FILENO, n);
 }
 
-// A line of `refused`, the number, and what comes with it.
+// A number behind `refused`, and what comes with it.
 fn print_refused(number: u64, with: u64) {
     io::write_all(STDOUT_FILENO, b"refused");
     print_number(number);
     print_number(with);
-    io::write_all(STDOUT_FILENO, b"\n");
 }
 
-// A line for each contract.
-fn print_lines(six: SixAnswers) {
-    let mut lines = [0u8; 512];
-    let n = put_lines(&mut lines, 0, Kind::Closing, six);
-    io::write_all(STDOUT_FILENO, &lines[..n]);
+// The bytes of a text.
+fn print_text(t: Text) {
+    let store = t.store;
+    let len = t.len;
+    if len <= 512 {
+        io::write_all(STDOUT_FILENO, &store[..len]);
+    }
 }
 
 // The six answers of a sheet, a line each, or its refusal.
 fn print_answers(sheet: &[u8]) {
     match closings(sheet) {
-        Closed::Six(_, six) => print_lines(six),
-        Closed::Refused(number, at) => print_refused(number as u64, at as u64),
+        Closed::Six(_, six) => print_text(put_lines(Text::empty(), six)),
+        Closed::Refused(number, at) => print_text(put_refusal(Text::empty(), number, at as u64)),
     }
 }
 
@@ -45,10 +47,12 @@ fn print_judged(sheet: &[u8]) {
             print_number(day.metal as u64);
             print_number(day.marks as u64);
             print_number(day.fields as u64);
-            io::write_all(STDOUT_FILENO, b"\n");
         }
-        Judged::Refused(number, at) => print_refused(number as u64, at as u64),
+        Judged::Refused(number, at) => {
+            print_refused(number as u64, at as u64);
+        }
     }
+    io::write_all(STDOUT_FILENO, b"\n");
 }
 
 // A sheet's answers, or what its judgement says.

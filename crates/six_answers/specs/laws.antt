@@ -3,4 +3,3 @@ pub mod Asking
 pub mod Steps
 pub mod Apart
 pub mod State
-pub mod Sizes

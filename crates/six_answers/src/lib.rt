@@ -1,5 +1,5 @@
-// The six answers of a day sheet: 3M, M3, M2, M4, M1 and Cash, each with its method, close and lots and what rounding took, or a
-// numbered refusal. One step for all contracts, each with the closes before it.
+// The six answers of a day sheet: 3M, M3, M2, M4, M1 and Cash, each with its method, close and lots, or a numbered refusal. One step for all
+// contracts, each with the closes before it.
 ghost use Rattle.std.specs.Prelude.{◌≡◌, map, ◌-◌, ◌≤◌, ◌<◌};
 ghost use Rattle.market.specs.Market.{contracts};
 ghost use Rattle.sheet.specs.Fields.{fields_of};
@@ -57,8 +57,6 @@ fn close_in(a: Answer) -> u32
             method: _,
             close,
             lots: _,
-            remainder: _,
-            divisor: _,
         } => close,
         Answer::NoReference(_) => 0,
         Answer::OutOfRange(_) => 0,
@@ -75,8 +73,6 @@ fn is_refused(a: Answer) -> bool
             method: _,
             close: _,
             lots: _,
-            remainder: _,
-            divisor: _,
         } => false,
         Answer::NoReference(_) => true,
         Answer::OutOfRange(_) => true,

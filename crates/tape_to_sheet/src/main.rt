@@ -1,7 +1,8 @@
 // Reads a text tape from standard input to its end and writes its sheet to standard output. A refusal is one line on standard error.
-use libc::{STDERR_FILENO, STDIN_FILENO};
-use program_output::{LONGEST_TEXT, hand_out, sheet_room, text_room};
+use libc::STDIN_FILENO;
+use program_output::{LONGEST_TEXT, hand_out, say, sheet_room, text_room};
 use tape_reader::tape_to_sheet;
+use text::Text;
 
 // The sheet of a text, or what refuses it.
 fn turn(text: &[u8]) {
@@ -15,7 +16,7 @@ fn main() {
     let mut text = text_room();
     let n = io::read_full(STDIN_FILENO, &mut text);
     if LONGEST_TEXT < n {
-        io::write_all(STDERR_FILENO, b"too long\n");
+        say(Text::empty().put(b"too long\n"));
         return;
     }
     turn(&text[..n]);

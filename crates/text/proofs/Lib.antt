@@ -1,4 +1,3 @@
 pub mod Parts
 pub mod Puts
-pub mod Signs
 pub mod Once

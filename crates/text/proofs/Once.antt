@@ -3,12 +3,14 @@ use Rattle.promise.specs.Once.{Once}
 use Rattle.promise.specs.laws.Once.{once}
 use Rattle.text.proofs.put_bytes.Reads as put-bytes
 use Rattle.text.proofs.put_bytes.Kinds as put-bytesK
-use Rattle.text.proofs.put_piece.Reads as put-piece
-use Rattle.text.proofs.put_piece.Kinds as put-pieceK
-use Rattle.text.proofs.put_number.Reads as put-number
-use Rattle.text.proofs.put_number.Kinds as put-numberK
-use Rattle.text.proofs.put_signed.Reads as put-signed
-use Rattle.text.proofs.put_signed.Kinds as put-signedK
+use Rattle.text.proofs.Text.empty.Reads as empty
+use Rattle.text.proofs.Text.empty.Kinds as emptyK
+use Rattle.text.proofs.Text.put.Reads as put
+use Rattle.text.proofs.Text.put.Kinds as put_k
+use Rattle.text.proofs.Text.number.Reads as number
+use Rattle.text.proofs.Text.number.Kinds as numberK
+use Rattle.text.proofs.Text.put_into.Reads as put-into
+use Rattle.text.proofs.Text.put_into.Kinds as put-intoK
 
 pub put-bytes-once : Once 2 put-bytesK.ps put-bytesK.r put-bytes.Post (λ κs x s. x)
 put-bytes-once κs a x y s t p q = once p.0 q.0
@@ -16,20 +18,17 @@ put-bytes-once κs a x y s t p q = once p.0 q.0
 pub put-bytes-leaves-once : Once 2 put-bytesK.ps put-bytesK.r put-bytes.Post (λ κs x s. s.0.now)
 put-bytes-leaves-once κs a x y s t p q = once p.1 q.1
 
-pub put-piece-once : Once 2 put-pieceK.ps put-pieceK.r put-piece.Post (λ κs x s. x)
-put-piece-once κs a x y s t p q = once p.place q.place
+pub empty-once : Once 0 emptyK.ps emptyK.r empty.Post (λ κs x s. x)
+empty-once κs a x y s t p q = once p q
 
-pub put-piece-leaves-once : Once 2 put-pieceK.ps put-pieceK.r put-piece.Post (λ κs x s. s.0.now)
-put-piece-leaves-once κs a x y s t p q = once p.buffer q.buffer
+pub put-once : Once 1 put_k.ps put_k.r put.Post (λ κs x s. x)
+put-once κs a x y s t p q = once p.is q.is
 
-pub put-number-once : Once 1 put-numberK.ps put-numberK.r put-number.Post (λ κs x s. x)
-put-number-once κs a x y s t p q = once p.place q.place
+pub number-once : Once 0 numberK.ps numberK.r number.Post (λ κs x s. x)
+number-once κs a x y s t p q = once p.is q.is
 
-pub put-number-leaves-once : Once 1 put-numberK.ps put-numberK.r put-number.Post (λ κs x s. s.0.now)
-put-number-leaves-once κs a x y s t p q = once p.buffer q.buffer
+pub put-into-once : Once 1 put-intoK.ps put-intoK.r put-into.Post (λ κs x s. x)
+put-into-once κs a x y s t p q = once p.0 q.0
 
-pub put-signed-once : Once 1 put-signedK.ps put-signedK.r put-signed.Post (λ κs x s. x)
-put-signed-once κs a x y s t p q = once p.place q.place
-
-pub put-signed-leaves-once : Once 1 put-signedK.ps put-signedK.r put-signed.Post (λ κs x s. s.0.now)
-put-signed-leaves-once κs a x y s t p q = once p.buffer q.buffer
+pub put-into-leaves-once : Once 1 put-intoK.ps put-intoK.r put-into.Post (λ κs x s. s.1.0.now)
+put-into-leaves-once κs a x y s t p q = once p.1 q.1

@@ -1,5 +1,5 @@
 -- Bytes put into a buffer from a place on, all of them or none.
-use Rattle.std.specs.Prelude.{ℕ, ◌+◌, ◌≡◌, Bool, cond, List, ◌++◌, leb, length, take, drop}
+use Rattle.std.specs.Prelude.{ℕ, ◌+◌, Bool, cond, List, ◌++◌, leb, length, take, drop}
 use Rattle.text.specs.declared.Put.{Put}
 use Rattle.text.specs.declared.Put.TheVariants.{Next, Full}
 
@@ -15,15 +15,6 @@ fits b at s = leb (at + length s) (length b)
 abbrev pub put_place : List ℕ → ℕ → List ℕ → Put
 put_place b at s = cond (fits b at s) (Next (at + length s)) Full
 
--- the place behind them, or the place itself where there is no room
-abbrev pub place_behind : List ℕ → ℕ → List ℕ → ℕ
-place_behind b at s = cond (fits b at s) (at + length s) at
-
 -- the buffer with them, or as it was
 abbrev pub put_buffer : List ℕ → ℕ → List ℕ → List ℕ
 put_buffer b at s = cond (fits b at s) (over b at s) b
-
--- what putting a piece of a text hands back and leaves in the buffer
-pub record Placed (b : List ℕ) (at : ℕ) (s : List ℕ) (r : ℕ) (b' : List ℕ) : Type 0 where
-  pub place : r ≡ place_behind b at s
-  pub buffer : b' ≡ put_buffer b at s

@@ -1,3 +1,4 @@
 pub mod Over
 pub mod Putting
+pub mod Held
 pub mod Decimal

@@ -1,8 +1,8 @@
-// Byte strings and decimal numbers put into a lent buffer at a place, each whole or not at all. Pieces follow one another: each hands back the place
-// behind it.
+// Text that is put together from byte strings and numbers, and put into a lent buffer whole or not at all.
 ghost use Rattle.std.specs.Prelude.{◌≡◌, ◌+◌, ◌≤◌, length};
-ghost use Rattle.text.specs.Over.{over, put_place, put_buffer, Placed};
-ghost use Rattle.text.specs.Decimal.{decimal, signed};
+ghost use Rattle.text.specs.Over.{over, put_place, put_buffer};
+ghost use Rattle.text.specs.Held.{Added, empty_text, held, place_after, buffer_after};
+ghost use Rattle.text.specs.Decimal.{decimal};
 
 // The place behind what was put; or there is no room for it.
 #[derive(Drop)]
@@ -33,36 +33,61 @@ pub fn put_bytes(buf: &mut [u8], at: usize, s: &[u8]) -> Put
     Put::Next(at + s.len())
 }
 
-// The same for a piece of a text: the place behind the bytes, or the place itself where there is no room.
-pub fn put_piece(buf: &mut [u8], at: usize, s: &[u8]) -> usize
-    ensures { Placed buf.old at s.now result buf.new }
-{
-    match put_bytes(buf, at, s) {
-        Put::Next(next) => next,
-        Put::Full => at,
-    }
+// A text of up to 512 bytes. A len above 512 says that what was put did not fit.
+#[derive(Drop)]
+pub struct Text {
+    pub store: [u8; 512],
+    pub len: usize,
 }
 
-// A number in decimal.
-pub fn put_number(buf: &mut [u8], at: usize, n: u64) -> usize
-    ensures { Placed buf.old at (decimal n) result buf.new }
-{
-    let mut digits = [0u8; 20];
-    let k = io::decimal(n, &mut digits);
-    put_piece(buf, at, &digits[..k])
-}
-
-// A signed number. A negative one stands with its minus in a store first, so that both are put or neither; its size is that of -1 - n and one more,
-// which the least number has too.
-pub fn put_signed(buf: &mut [u8], at: usize, n: i64) -> usize
-    ensures { Placed buf.old at (signed n) result buf.new }
-{
-    if 0 <= n {
-        return put_number(buf, at, n as u64);
+impl Text {
+    // No bytes.
+    pub fn empty() -> Text
+        ensures { result ≡ empty_text }
+    {
+        Text {
+            store: [0; 512],
+            len: 0,
+        }
     }
-    let size = (-1 - n) as u64 + 1;
-    let mut store = [0u8; 21];
-    let minus = put_piece(&mut store, 0, b"-");
-    let end = put_number(&mut store, minus, size);
-    put_piece(buf, at, &store[..end])
+
+    // The text with the bytes behind it.
+    pub fn put(self, s: &[u8]) -> Text
+        ensures { Added self s.now result }
+    {
+        let at = self.len;
+        let mut store = self.store;
+        if 512 < at {
+            return self;
+        }
+        if 512 - at < s.len() {
+            return Text { store, len: 513 };
+        }
+        copy_in(&mut store, at, s);
+        Text {
+            store,
+            len: at + s.len(),
+        }
+    }
+
+    // The text with the number in decimal behind it.
+    pub fn number(self, n: u64) -> Text
+        ensures { Added self (decimal n) result }
+    {
+        let mut digits = [0u8; 20];
+        let k = io::decimal(n, &mut digits);
+        self.put(&digits[..k])
+    }
+
+    // The whole text into the buffer from the place on, or nothing.
+    pub fn put_into(self, buf: &mut [u8], at: usize) -> Put
+        ensures { (result ≡ place_after buf.old at (held self)) × (buf.new ≡ buffer_after buf.old at (held self)) }
+    {
+        let len = self.len;
+        let store = self.store;
+        if 512 < len {
+            return Put::Full;
+        }
+        put_bytes(buf, at, &store[..len])
+    }
 }

@@ -1,7 +1,8 @@
 // Reads an old sheet from standard input to its end and writes it with the new header to standard output. A refusal is one line on standard error.
 use header_mover::to_new_header;
-use libc::{STDERR_FILENO, STDIN_FILENO};
-use program_output::{LONGEST_SHEET, hand_out, sheet_room};
+use libc::STDIN_FILENO;
+use program_output::{LONGEST_SHEET, hand_out, say, sheet_room};
+use text::Text;
 
 // The sheet with the new header, or what refuses it.
 fn turn(sheet: &[u8]) {
@@ -15,7 +16,7 @@ fn main() {
     let mut sheet = sheet_room();
     let n = io::read_full(STDIN_FILENO, &mut sheet);
     if LONGEST_SHEET < n {
-        io::write_all(STDERR_FILENO, b"too long\n");
+        say(Text::empty().put(b"too long\n"));
         return;
     }
     turn(&sheet[..n]);

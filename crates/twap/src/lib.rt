@@ -127,7 +127,7 @@ fn plus(total: Total, side: Side, milliseconds: u32) -> Total
 
 // The line of an instrument with one of its fields more.
 fn line_with(line: Line, stamp: Stamp, start: u32, field: Field) -> Line
-    requires { Fair start line × (start ≤ 86399999) × (stamp ≡ stamp_of field) }
+    requires { Fair start line × (start ≤ 60900000) × (stamp ≡ stamp_of field) }
     ensures { result ≡ line_with stamp.instrument start line field }
 {
     let state = line.state;
@@ -224,7 +224,7 @@ fn lines_of(sheet: &[u8], metal: u8) -> [Line; 12]
 
 // What a line comes to with its last span, up to the window's end.
 fn sum_of(line: Line, start: u32) -> Summed
-    requires { Fair start line × (start ≤ 86399999) }
+    requires { Fair start line × (start ≤ 60900000) }
     ensures { span_says result ≡ line_sum start line }
 {
     if line.told {

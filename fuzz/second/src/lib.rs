@@ -1,11 +1,11 @@
 //! The independent program's answers for a C program: judgement, six answers,
-//! both lists, one field, a tape turned into a sheet and back, and a sheet moved to
+//! list, one field, a tape turned into a sheet and back, and a sheet moved to
 //! another header, each TWAP by spans. The features plant a wrong rule.
 
 mod planted;
 
 use independent::field::{read_field, Field};
-use independent::list::{list_text, rounding_list_by_spans};
+use independent::list::list_text;
 use independent::moves::to_new_header;
 use independent::tables::LIST_LIMIT;
 use independent::tape::sheet_to_tape;
@@ -33,16 +33,16 @@ pub unsafe extern "C" fn second_judge(sheet: *const u8, len: usize, at: &mut usi
     }
 }
 
-/// 0 and five numbers for each contract, or the refusal's number with its byte
+/// 0 and three numbers for each contract, or the refusal's number with its byte
 /// in `at`.
 ///
 /// # Safety
 /// As for [`second_judge`]; `rows` are live.
 #[no_mangle]
-pub unsafe extern "C" fn second_closings(
+pub unsafe extern "C" fn second_answers(
     sheet: *const u8,
     len: usize,
-    rows: &mut [i64; 30],
+    rows: &mut [u64; 18],
     at: &mut usize,
 ) -> u8 {
     let day = match planted::judge(unsafe { lent(sheet, len) }) {
@@ -52,20 +52,16 @@ pub unsafe extern "C" fn second_closings(
             return number;
         }
     };
-    for (row, answer) in rows.chunks_exact_mut(5).zip(planted::price(&day)) {
-        row.copy_from_slice(&row_of(answer));
+    for (row, answer) in rows.chunks_exact_mut(3).zip(planted::price(&day)) {
+        let numbers = match answer {
+            Answer::Priced { method, price, lots } => {
+                [if method == Method::Vwap { 1 } else { 2 }, price as u64, lots]
+            }
+            Answer::Refused { number, lots } => [number.into(), 0, lots],
+        };
+        row.copy_from_slice(&numbers);
     }
     0
-}
-
-fn row_of(answer: Answer) -> [i64; 5] {
-    match answer {
-        Answer::Priced { method, price, lots, remainder, divisor } => {
-            let method = if method == Method::Vwap { 1 } else { 2 };
-            [method, price, lots as i64, remainder, divisor as i64]
-        }
-        Answer::Refused { number, lots } => [number.into(), 0, lots as i64, 0, 0],
-    }
 }
 
 /// The list's length; the list is longer than `room` nowhere.
@@ -81,24 +77,6 @@ pub unsafe extern "C" fn second_list(sheet: *const u8, len: usize, out: *mut u8,
     };
     let out = unsafe { slice::from_raw_parts_mut(out, room) };
     out[..text.len()].copy_from_slice(text.as_bytes());
-    text.len()
-}
-
-/// The same for the list with what rounding took. No wrong rule is planted in it:
-/// the answers show each of them.
-///
-/// # Safety
-/// As for [`second_list`].
-#[no_mangle]
-pub unsafe extern "C" fn second_rounding_list(
-    sheet: *const u8,
-    len: usize,
-    out: *mut u8,
-    room: usize,
-) -> usize {
-    let text = rounding_list_by_spans(unsafe { lent(sheet, len) });
-    let out = unsafe { slice::from_raw_parts_mut(out, room) };
-    out[..text.len()].copy_from_slice(&text);
     text.len()
 }
 

@@ -2,7 +2,7 @@
 
 use independent::field::{take_field, Field, Refusal};
 use independent::moves;
-use independent::pricing::{price_day_by_spans, step_of};
+use independent::pricing::price_day_by_spans;
 use independent::sheet::Record;
 use independent::tables::{metal_row, window_start, WINDOW};
 use independent::tape;
@@ -74,33 +74,11 @@ pub fn to_old_header(sheet: &[u8], room: usize) -> Result<Vec<u8>, Refusal> {
     moves::to_old_header(&sheet, room)
 }
 
-/// The six answers. Wrong under `window-end` and under `lower-half`.
+/// The six answers. Wrong under `window-end`: a trade at start + 300,000 counts.
 pub fn price(day: &Day) -> [Answer; 6] {
-    if cfg!(feature = "window-end") {
-        with_a_late_trade(day)
-    } else if cfg!(feature = "lower-half") {
-        with_halves_below(day)
-    } else {
-        price_day_by_spans(day)
+    if !cfg!(feature = "window-end") {
+        return price_day_by_spans(day);
     }
-}
-
-/// `lower-half`: a remainder of half a step is below zero, as if halves went down.
-fn with_halves_below(day: &Day) -> [Answer; 6] {
-    let mut answers = price_day_by_spans(day);
-    for (contract, answer) in answers.iter_mut().enumerate() {
-        let Answer::Priced { remainder, divisor, .. } = answer else {
-            continue;
-        };
-        if 2 * i128::from(*remainder) == i128::from(*divisor) * step_of(day, contract) {
-            *remainder = -*remainder;
-        }
-    }
-    answers
-}
-
-/// `window-end`: a trade at start + 300,000 counts.
-fn with_a_late_trade(day: &Day) -> [Answer; 6] {
     let mut day = day.clone();
     for record in &mut day.records {
         let (Record::Trade(trade), Some(metal)) = (record, metal_row(day.metal)) else {

@@ -1,4 +1,4 @@
-//! Asks the proved library and the independent program for both lists, the judgement, the answers, the fields, the text and the sheet with
+//! Asks the proved library and the independent program for the list, the judgement, the answers, the fields, the text and the sheet with
 //! another header of many sheets made from a seed, then for the sheets of many texts, and stops at the first difference with that sheet in
 //! hexadecimal or that text. A sheet or text depends on the seed, its number and its kind only. Before them come the named cases, the longest
 //! sheets among them, whose answers are written by hand, named texts and their sheets, and named moves.
@@ -7,7 +7,6 @@
 
 mod moves;
 mod named;
-mod rounding;
 mod same;
 mod sheets;
 mod tally;
@@ -52,8 +51,7 @@ fn run(words: &[String]) -> Result<(), String> {
 }
 
 fn row_of_seeds(first: u64, accepted: u64, damaged: u64, times: u64) -> Result<(), String> {
-    let named::Held { cases, rounding } = named::hold()?;
-    println!("{cases} named cases as they are written by hand, {rounding} of them with what rounding took");
+    println!("{} named cases as they are written by hand", named::hold()?);
     println!("{} named texts and sheets, each turned as it is written by hand, and the texts with lines behind them", named::hold_tapes()?);
     println!("{} named moves to another header as they are written by hand", named::hold_moves()?);
     let (mut all, mut all_tapes) = (Tally::default(), TapeTally::default());

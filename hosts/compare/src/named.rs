@@ -1,63 +1,45 @@
-//! The named cases: the library's lists and answers with what rounding took, sheets of texts, texts of sheets and moved sheets beside those
-//! written by hand, and beside the independent program's.
+//! The named cases: the library's lists and answers, sheets of texts, texts of sheets and moved sheets beside those written by hand, and
+//! beside the independent program's.
 
 use crate::moves::{TO_NEW, TO_OLD};
 use crate::same;
 use crate::tapes::{look, TO_SHEET, TO_TAPE};
 use crate::turning::{Told, Turning};
-use bliskoru::{Answer, Contract, CONTRACTS};
+use bliskoru::CONTRACTS;
 use independent::named::moves::named_moves;
 use independent::named::tapes::{large_tapes, large_untapes, named_tapes, named_untapes};
 use independent::named::{large_cases, named_cases, NamedCase};
 use independent::TAPE_LIMIT;
 
-/// How many named cases there are, and how many of them have a list with what rounding took.
-pub struct Held {
-    pub cases: usize,
-    pub rounding: usize,
-}
-
-/// Every named case, those too long for a list too; how many they are, or the first that differs. Some must have a list with what rounding
-/// took.
-pub fn hold() -> Result<Held, String> {
+/// Every named case, those too long for a list too; how many they are, or the first that differs.
+pub fn hold() -> Result<usize, String> {
     let (short, large) = (named_cases(), large_cases());
-    for case in &short {
-        told_as_written(case, bliskoru::list(&case.sheet), bliskoru::rounding_list(&case.sheet))?;
+    let lists = short.iter().map(|case| (case, bliskoru::list(&case.sheet)));
+    let answers = large.iter().map(|case| (case, answers_as_lines(case)));
+    for (case, given) in lists.chain(answers) {
+        told_as_written(case, given)?;
     }
-    for case in &large {
-        told_as_written(case, answers_as_lines(case, false), answers_as_lines(case, true))?;
-    }
-    let rounding = short.iter().chain(&large).filter(|case| case.rounding.is_some()).count();
-    match rounding {
-        0 => Err("no named case has a list with what rounding took".to_string()),
-        _ => Ok(Held { cases: short.len() + large.len(), rounding }),
-    }
+    Ok(short.len() + large.len())
 }
 
-/// The library's lists as they are by hand, the one with what rounding took where there is one, and both alike in everything else.
-fn told_as_written(case: &NamedCase, list: String, rounding: String) -> Result<(), String> {
-    for (by_hand, given) in [(Some(&case.list), &list), (case.rounding.as_ref(), &rounding)] {
-        if by_hand.is_some_and(|by_hand| by_hand != given) {
-            let by_hand = by_hand.map_or("", String::as_str);
-            return Err(format!("{}: by hand\n{by_hand}the library says\n{given}", case.name));
-        }
+/// The library's list as it is by hand, and both alike in everything else.
+fn told_as_written(case: &NamedCase, given: String) -> Result<(), String> {
+    if given != case.list {
+        return Err(format!("{}: by hand\n{}the library says\n{given}", case.name, case.list));
     }
     let looked = same::look(&case.sheet, 0, false);
     looked.map(|_| ()).map_err(|difference| format!("{}: {difference}", case.name))
 }
 
-/// The library's answers as a list has them, with what rounding took where it is wanted, under the name that the list by hand starts with.
-fn answers_as_lines(case: &NamedCase, rounding: bool) -> String {
+/// The library's answers as a list has them, under the name that the list by hand starts with.
+fn answers_as_lines(case: &NamedCase) -> String {
     let answers = match bliskoru::answers(&case.sheet) {
         Ok(answers) => answers,
         Err(no) => return format!("refused {} {}\n", no.reason.number(), no.byte),
     };
     let metal = case.list.lines().next().unwrap_or_default();
-    let line = |(contract, answer): (&Contract, Answer)| match answer.rounding().filter(|_| rounding) {
-        Some((remainder, divisor)) => format!("{contract} {answer} {remainder} {divisor}\n"),
-        None => format!("{contract} {answer}\n"),
-    };
-    format!("{metal}\n{}", CONTRACTS.iter().zip(answers).map(line).collect::<String>())
+    let lines = CONTRACTS.iter().zip(answers).map(|(contract, answer)| format!("{contract} {answer}\n"));
+    format!("{metal}\n{}", lines.collect::<String>())
 }
 
 /// Lines that may stand behind those of any day: with them no line of a named text is among the last of its text, which the library reads by

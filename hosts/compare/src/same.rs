@@ -1,22 +1,20 @@
 //! One sheet, asked of both.
 
 use crate::moves::{self, Moves};
-use crate::{rounding, tapes};
-use bliskoru::{Answer, Field, Method, LIST_ROOM, ROUNDING_LIST_ROOM};
-use independent::list::{closing_list, closing_list_by_spans, rounding_list_by_spans};
+use crate::tapes;
+use bliskoru::{Answer, Field, Method, LIST_ROOM};
+use independent::list::{closing_list, closing_list_by_spans};
 use independent::pricing::{price_day, price_day_by_spans};
 use independent::sheet::Record;
 use independent::tables::{metal_row, window_start};
 use independent::{judge_sheet, Day, Refusal};
 use std::fmt::Debug;
 
-/// What both say of an accepted sheet and of its moves, of which kinds its remainders are, and whether a quote that rests from before a window
-/// decides one of the answers.
+/// What both say of an accepted sheet and of its moves, and whether a quote that rests from before a window decides one of the answers.
 #[derive(Clone, Copy)]
 pub struct Accepted {
     pub metal: u8,
     pub answers: [Answer; 6],
-    pub rounding: rounding::Counts,
     pub moves: Moves,
     pub resting: bool,
 }
@@ -57,19 +55,20 @@ pub fn look(sheet: &[u8], item: u64, walked: bool) -> Result<Told, String> {
     let answers = judged.as_ref().map(|day| answers_of(day, price)).map_err(|no| *no);
     same("judgement", &bliskoru::judge(sheet).map_err(in_numbers), &judgement)?;
     same("answers", &bliskoru::answers(sheet).map_err(in_numbers), &answers)?;
-    look_at_lists(sheet, walked)?;
+    look_at_list(sheet, walked)?;
     let text = tapes::look_at_sheet(sheet)?;
     same("judgement by the text", &text.map(|_| ()), &judgement)?;
     let moves = moves::look(sheet, &answers)?;
     if sheet.len() <= LONGEST_READ {
         look_at_fields(sheet, item)?;
     }
-    let (day, answers) = match (judged, answers) {
-        (Ok(day), Ok(answers)) => (day, answers),
-        (Err(no), _) | (_, Err(no)) => return Ok(Err(no)),
+    let accepted = |day: Day, answers| Accepted {
+        metal: day.metal,
+        answers,
+        moves,
+        resting: is_decided_by_resting(&day),
     };
-    let rounding = rounding::kinds(&day, &answers)?;
-    Ok(Ok(Accepted { metal: day.metal, answers, rounding, moves, resting: is_decided_by_resting(&day) }))
+    Ok(judged.and_then(|day| Ok(accepted(day, answers?))))
 }
 
 /// The independent program's answers in the library's words.
@@ -91,13 +90,12 @@ fn is_decided_by_resting(day: &Day) -> bool {
 /// The independent program's answer in the library's words. A close that 32 bits cannot hold becomes one that no close equals.
 fn in_the_librarys_words(answer: &independent::Answer) -> Answer {
     match *answer {
-        independent::Answer::Priced { method, price, lots, remainder, divisor } => {
+        independent::Answer::Priced { method, price, lots } => {
             let method = match method {
                 independent::Method::Vwap => Method::Vwap,
                 independent::Method::Twap => Method::Twap,
             };
-            let cents = u32::try_from(price).unwrap_or(u32::MAX);
-            Answer::Priced { method, cents, lots, remainder, divisor }
+            Answer::Priced { method, cents: u32::try_from(price).unwrap_or(u32::MAX), lots }
         }
         independent::Answer::Refused { number, lots } => {
             let reason = bliskoru::Reason::from_number(number).unwrap_or(bliskoru::Reason::DoesNotFit);
@@ -106,29 +104,17 @@ fn in_the_librarys_words(answer: &independent::Answer) -> Answer {
     }
 }
 
-/// Both lists, the closing list and the one with what rounding took.
-fn look_at_lists(sheet: &[u8], walked: bool) -> Result<(), String> {
+/// The list, byte for byte, with what stands behind it in its room.
+fn look_at_list(sheet: &[u8], walked: bool) -> Result<(), String> {
     let list = if walked { closing_list(sheet) } else { closing_list_by_spans(sheet) };
-    look_at_list::<LIST_ROOM>("the list", bliskoru::list_into, sheet, &list)?;
-    let (into, list) = (bliskoru::rounding_list_into, rounding_list_by_spans(sheet));
-    look_at_list::<ROUNDING_LIST_ROOM>("the list with what rounding took", into, sheet, &list)
-}
-
-/// A list by the library, byte for byte, with what stands behind it in its room.
-fn look_at_list<const ROOM: usize>(
-    name: &str,
-    list_into: fn(&[u8], &mut [u8]) -> Option<usize>,
-    sheet: &[u8],
-    list: &[u8],
-) -> Result<(), String> {
-    let mut room = [FILL; ROOM];
-    let mut wanted = [FILL; ROOM];
-    wanted[..list.len()].copy_from_slice(list);
-    same(&format!("the length of {name}"), &list_into(sheet, &mut room), &Some(list.len()))?;
+    let mut room = [FILL; LIST_ROOM];
+    let mut wanted = [FILL; LIST_ROOM];
+    wanted[..list.len()].copy_from_slice(&list);
+    same("the list's length", &bliskoru::list_into(sheet, &mut room), &Some(list.len()))?;
     if room == wanted {
         return Ok(());
     }
-    same(&format!("{name} in its room"), &shown(&room), &shown(&wanted))
+    same("the list in its room", &shown(&room), &shown(&wanted))
 }
 
 /// What stands in a room before its last bytes as they were filled.

@@ -1,7 +1,6 @@
 //! What was among the sheets.
 
 use crate::moves::Moves;
-use crate::rounding::{Counts, KINDS, METHODS};
 use crate::same::Told;
 use bliskoru::{Answer, Method};
 
@@ -49,8 +48,6 @@ pub struct Tally {
     refused: [u64; 13],
     /// Contracts of accepted sheets by answer.
     answers: [u64; 5],
-    /// Their remainders by method and kind.
-    rounding: Counts,
     sizes: [u64; 5],
 }
 
@@ -108,7 +105,6 @@ impl Tally {
                 for answer in &accepted.answers {
                     self.answers[place_of(answer)] += 1;
                 }
-                self.add_rounding(&accepted.rounding);
                 self.count_moves(accepted.moves);
             }
             Err((number, _)) => self.refused[place_of_number(*number)] += 1,
@@ -119,12 +115,6 @@ impl Tally {
         let given = [to_new == 0, to_old == 0, to_new == 19, to_old == 19];
         add_to(&mut self.moves, &given.map(u64::from));
         self.longer += u64::from(to_new == 1);
-    }
-
-    fn add_rounding(&mut self, counts: &Counts) {
-        for (row, other) in self.rounding.iter_mut().zip(counts) {
-            add_to(row, other);
-        }
     }
 
     pub fn add(&mut self, other: &Tally) {
@@ -139,43 +129,26 @@ impl Tally {
         add_to(&mut self.moves, &other.moves);
         add_to(&mut self.refused, &other.refused);
         add_to(&mut self.answers, &other.answers);
-        self.add_rounding(&other.rounding);
         add_to(&mut self.sizes, &other.sizes);
     }
 
-    /// Every metal, header, move, number, answer, kind of remainder by each method and size must have been among them, a contract that took
-    /// the close of 3M, and a resting quote.
+    /// Every metal, header, move, number, answer and size must have been among them, a contract that took the close of 3M, and a resting
+    /// quote.
     pub fn has_everything(&self) -> Result<(), String> {
         let single = [self.taken, self.resting];
-        let [vwap, twap] = &self.rounding;
-        let rows: [&[u64]; 9] = [
-            &self.metals,
-            &self.headers,
-            &self.moves,
-            &self.refused,
-            &self.answers,
-            vwap,
-            twap,
-            &self.sizes,
-            &single,
-        ];
+        let rows: [&[u64]; 7] =
+            [&self.metals, &self.headers, &self.moves, &self.refused, &self.answers, &self.sizes, &single];
         if rows.iter().all(|row| row.iter().all(|count| *count > 0)) {
             return Ok(());
         }
-        Err("a metal, a header, a move, a number, an answer, a kind of remainder, a size, a close of 3M that is taken or a resting quote was not among the sheets".to_string())
-    }
-
-    /// The remainders of each method by their kinds.
-    fn rounding_line(&self) -> String {
-        let rows = METHODS.iter().zip(&self.rounding);
-        rows.map(|(method, row)| format!("by {method} {}", named(&KINDS, row))).collect::<Vec<_>>().join("; ")
+        Err("a metal, a header, a move, a number, an answer, a size, a close of 3M that is taken or a resting quote was not among the sheets".to_string())
     }
 
     /// All of it in one line.
     pub fn line(&self) -> String {
         let accepted: u64 = self.metals.iter().sum();
         format!(
-            "{} sheets of {} bytes, no difference; accepted {accepted} ({}; {}), each as text and back, {} of them walked, {} with a contract that took the close of 3M, {} decided by a resting quote; moved and back, or refused: {}, 1 for the longer sheet {}; refused by {}; contracts {}; remainders {}; bytes {}",
+            "{} sheets of {} bytes, no difference; accepted {accepted} ({}; {}), each as text and back, {} of them walked, {} with a contract that took the close of 3M, {} decided by a resting quote; moved and back, or refused: {}, 1 for the longer sheet {}; refused by {}; contracts {}; bytes {}",
             self.sheets,
             self.bytes,
             named(&METALS, &self.metals),
@@ -187,7 +160,6 @@ impl Tally {
             self.longer,
             named(&NUMBERS, &self.refused),
             named(&ANSWERS, &self.answers),
-            self.rounding_line(),
             named(&SIZE_NAMES, &self.sizes),
         )
     }

@@ -56,7 +56,7 @@ impl fmt::Display for Contract {
 }
 
 /// A contract's answer. Lots are the sum over its VWAP instruments in the window, and 0 for one that was not reached. M3 or M4 has that
-/// of 3M, remainder and divisor too, where the header's third value names it and none before it is refused.
+/// of 3M where the header's third value names it and none before it is refused.
 #[derive(Clone, Copy, Debug, PartialEq, Eq, Hash)]
 pub enum Answer {
     /// A close, 1 to 99,999,999 cents.
@@ -67,11 +67,6 @@ pub enum Answer {
         cents: u32,
         /// The lots.
         lots: u64,
-        /// What rounding took: the close times the divisor, less the sum that was divided. Above zero where the close was rounded up, and
-        /// at most half of the step times the divisor either way.
-        remainder: i64,
-        /// The lots by VWAP, 300,000 by TWAP.
-        divisor: u64,
     },
     /// No close.
     Refused {
@@ -83,14 +78,12 @@ pub enum Answer {
 }
 
 impl Answer {
-    /// The answer in a row: method or refusal, close, lots, remainder, divisor. A close has at most 99,999,999 cents, and of the five only
-    /// the remainder can be below zero, so that no conversion loses anything.
-    pub(crate) fn of_row([told, close, lots, remainder, divisor]: [i64; 5]) -> Answer {
-        let (cents, lots, divisor) = (close as u32, lots as u64, divisor as u64);
+    /// The answer in a row: method or refusal, close, lots. A close has at most 99,999,999 cents, so the narrowing loses nothing.
+    pub(crate) fn of_row(told: u64, close: u64, lots: u64) -> Answer {
         match told {
-            1 => Answer::Priced { method: Method::Vwap, cents, lots, remainder, divisor },
-            2 => Answer::Priced { method: Method::Twap, cents, lots, remainder, divisor },
-            number => Answer::Refused { reason: Reason::handed_back(number as u64), lots },
+            1 => Answer::Priced { method: Method::Vwap, cents: close as u32, lots },
+            2 => Answer::Priced { method: Method::Twap, cents: close as u32, lots },
+            number => Answer::Refused { reason: Reason::handed_back(number), lots },
         }
     }
 
@@ -108,21 +101,13 @@ impl Answer {
             Answer::Priced { lots, .. } | Answer::Refused { lots, .. } => *lots,
         }
     }
-
-    /// What rounding took, where there is a close: the remainder and its divisor.
-    pub fn rounding(&self) -> Option<(i64, u64)> {
-        match self {
-            Answer::Priced { remainder, divisor, .. } => Some((*remainder, *divisor)),
-            Answer::Refused { .. } => None,
-        }
-    }
 }
 
-/// As on the closing list: method, cents, lots; or `refused`, the number, lots.
+/// As on the list: method, cents, lots; or `refused`, the number, lots.
 impl fmt::Display for Answer {
     fn fmt(&self, out: &mut fmt::Formatter<'_>) -> fmt::Result {
         match self {
-            Answer::Priced { method, cents, lots, .. } => write!(out, "{method} {cents} {lots}"),
+            Answer::Priced { method, cents, lots } => write!(out, "{method} {cents} {lots}"),
             Answer::Refused { reason, lots } => write!(out, "refused {} {lots}", reason.number()),
         }
     }

@@ -2,9 +2,8 @@
 //! the long header and back to the short one, by the proved library Bliskoru.
 //!
 //! * [`list`], [`list_into`]: the closing list as text
-//! * [`rounding_list`], [`rounding_list_into`]: the same with what rounding took
 //! * [`judge`]: is this a sheet, and if not, why and at which byte
-//! * [`answers`]: price, method, lots and what rounding took of each contract, or why there is none
+//! * [`answers`]: price, method and lots of each contract, or why there is none
 //! * [`read_field`], [`write_field`]: one field at a place
 //! * [`tape_to_sheet`], [`sheet_to_tape`]: the sheet of a text tape, and the text tape of a sheet
 //! * [`to_new_header`], [`to_old_header`]: the sheet with a long header, and with a short one
@@ -41,6 +40,5 @@ pub use answer::{Answer, Contract, Method, CONTRACTS};
 pub use field::{read_field, write_field, Field, BID, OFFER};
 pub use header::{to_new_header, to_new_header_into, to_old_header, to_old_header_into};
 pub use reason::{Reason, Refusal, TapeRefusal};
-pub use sheet::{answers, judge, list, list_into, rounding_list, rounding_list_into};
-pub use sheet::{LIST_ROOM, LONGEST_LISTED, LONGEST_SHEET, ROUNDING_LIST_ROOM};
+pub use sheet::{answers, judge, list, list_into, LIST_ROOM, LONGEST_LISTED, LONGEST_SHEET};
 pub use tape::{sheet_to_tape, sheet_to_tape_into, tape_to_sheet, tape_to_sheet_into, LONGEST_TAPE};

@@ -2,25 +2,22 @@
 //!
 //! # Safety
 //!
-//! The same holds for all fifteen. A pointer and the length behind it are a slice, and every other pointer is a reference: none is null,
+//! The same holds for all fourteen. A pointer and the length behind it are a slice, and every other pointer is a reference: none is null,
 //! even where the length is 0; each is aligned and holds for the whole call; what a `*mut` points to overlaps with nothing else that
-//! is lent to the same call. `answers` points to 30 numbers and `values` to 6.
+//! is lent to the same call. `answers` points to 18 numbers and `values` to 6.
 
 extern "C" {
     /// The closing list into `out`: its length, or 0 where it does not fit and nothing is written.
     pub fn bliskoru_list(sheet: *const u8, sheet_len: usize, out: *mut u8, out_len: usize) -> usize;
 
-    /// The list with what rounding took into `out`: its length, or 0 where it does not fit and nothing is written.
-    pub fn bliskoru_rounding_list(sheet: *const u8, sheet_len: usize, out: *mut u8, out_len: usize) -> usize;
-
     /// 0, or the sheet's refusal, 1 to 12 or 18, with its byte in `at`.
     pub fn bliskoru_judge(sheet: *const u8, sheet_len: usize, at: *mut usize) -> u8;
 
-    /// 0 and six rows of five numbers; or the sheet's refusal, 1 to 12 or 18, with its byte in `at`.
-    pub fn bliskoru_closings(
+    /// 0 and six rows of three numbers; or the sheet's refusal, 1 to 12 or 18, with its byte in `at`.
+    pub fn bliskoru_answers(
         sheet: *const u8,
         sheet_len: usize,
-        answers: *mut [i64; 30],
+        answers: *mut [u64; 18],
         at: *mut usize,
     ) -> u8;
 

@@ -1,4 +1,4 @@
-//! A whole sheet: its two lists, its judgement and its answers.
+//! A whole sheet: its list, its judgement and its answers.
 
 use crate::answer::Answer;
 use crate::raw;
@@ -7,20 +7,17 @@ use crate::reason::{Reason, Refusal};
 /// A sheet of more bytes is refused.
 pub const LONGEST_SHEET: usize = 1_048_576;
 
-/// Either list of a sheet of more bytes is the line `too long`.
+/// The list of a sheet of more bytes is the line `too long`.
 pub const LONGEST_LISTED: usize = 65_536;
 
-/// Room that is enough for every closing list.
+/// Room that is enough for every list.
 pub const LIST_ROOM: usize = 512;
-
-/// Room that is enough for every list with what rounding took.
-pub const ROUNDING_LIST_ROOM: usize = 640;
 
 /// The closing list of a sheet: the metal's name and six lines, or `refused`, number and byte, or `too long`.
 pub fn list(sheet: &[u8]) -> String {
     let mut room = [0; LIST_ROOM];
-    let length = list_into(sheet, &mut room);
-    text_in(&room, length)
+    let length = list_into(sheet, &mut room).unwrap_or_else(|| unreachable!("no list is longer"));
+    room[..length].iter().map(|&byte| char::from(byte)).collect()
 }
 
 /// The closing list of a sheet at the start of `out`, and its length. None where it does not fit; `out` is then as it was.
@@ -28,27 +25,6 @@ pub fn list_into(sheet: &[u8], out: &mut [u8]) -> Option<usize> {
     // SAFETY: both are slices, whose pointers are never null, and `out` is borrowed alone.
     let length = unsafe { raw::bliskoru_list(sheet.as_ptr(), sheet.len(), out.as_mut_ptr(), out.len()) };
     (length != 0).then_some(length)
-}
-
-/// The closing list of a sheet with what rounding took: behind the lots of each contract that is priced stand its remainder and its divisor.
-pub fn rounding_list(sheet: &[u8]) -> String {
-    let mut room = [0; ROUNDING_LIST_ROOM];
-    let length = rounding_list_into(sheet, &mut room);
-    text_in(&room, length)
-}
-
-/// The list with what rounding took at the start of `out`, and its length. None where it does not fit; `out` is then as it was.
-pub fn rounding_list_into(sheet: &[u8], out: &mut [u8]) -> Option<usize> {
-    let (start, room) = (out.as_mut_ptr(), out.len());
-    // SAFETY: both are slices, whose pointers are never null, and `out` is borrowed alone.
-    let length = unsafe { raw::bliskoru_rounding_list(sheet.as_ptr(), sheet.len(), start, room) };
-    (length != 0).then_some(length)
-}
-
-/// The text of a list in room that is enough for it.
-fn text_in(room: &[u8], length: Option<usize>) -> String {
-    let length = length.unwrap_or_else(|| unreachable!("no list is longer"));
-    room[..length].iter().map(|&byte| char::from(byte)).collect()
 }
 
 /// Is this a sheet? If not, why and at which byte.
@@ -61,13 +37,12 @@ pub fn judge(sheet: &[u8]) -> Result<(), Refusal> {
 
 /// The answers of the six contracts in pricing order ([`CONTRACTS`](crate::CONTRACTS)), or why this is no sheet.
 pub fn answers(sheet: &[u8]) -> Result<[Answer; 6], Refusal> {
-    let mut rows = [0; 30];
+    let mut rows = [0; 18];
     let mut byte = 0;
-    // SAFETY: `sheet` is a slice, whose pointer is never null; `rows` has 30 numbers, and it and `byte` are ours.
-    let number = unsafe { raw::bliskoru_closings(sheet.as_ptr(), sheet.len(), &mut rows, &mut byte) };
+    // SAFETY: `sheet` is a slice, whose pointer is never null; `rows` has 18 numbers, and it and `byte` are ours.
+    let number = unsafe { raw::bliskoru_answers(sheet.as_ptr(), sheet.len(), &mut rows, &mut byte) };
     judged(number, byte)?;
-    let row = |contract: usize| std::array::from_fn(|number| rows[5 * contract + number]);
-    Ok(std::array::from_fn(|contract| Answer::of_row(row(contract))))
+    Ok(std::array::from_fn(|k| Answer::of_row(rows[3 * k], rows[3 * k + 1], rows[3 * k + 2])))
 }
 
 /// 0 is yes; any other number is the reason.

@@ -3,7 +3,6 @@
 mod common;
 
 use bliskoru::raw;
-use common::{answers_of, at_price, list_of, thirty, NOT_REACHED, NO_REFERENCE};
 use common::{file, filled, longer, moves, pair_of, rows, tape_rows, Pair, Row, FILL, FILLED, GUARD};
 use common::{long_nickel_of, long_nickel_tape_of, nickel_of, nickel_tape_of};
 
@@ -12,7 +11,7 @@ use common::{long_nickel_of, long_nickel_tape_of, nickel_of, nickel_tape_of};
 #[derive(Debug, PartialEq)]
 struct Lent {
     guard_1: u64,
-    answers: [i64; 30],
+    answers: [u64; 18],
     guard_2: u64,
     values: [i64; 6],
     guard_3: u64,
@@ -26,7 +25,7 @@ fn lent() -> Lent {
     let all = u64::from_ne_bytes([FILL; 8]);
     Lent {
         guard_1: all,
-        answers: [all as i64; 30],
+        answers: [all; 18],
         guard_2: all,
         values: [all as i64; 6],
         guard_3: all,
@@ -45,14 +44,8 @@ fn with_copy<T>(sheet: &[u8], text: &str, call: impl FnOnce(*const u8, usize) ->
     told
 }
 
-/// One of the two functions that list a sheet, and room that is always enough for its list.
-type Listing = (unsafe extern "C" fn(*const u8, usize, *mut u8, usize) -> usize, usize);
-
-const CLOSING: Listing = (raw::bliskoru_list, 512);
-const ROUNDING: Listing = (raw::bliskoru_rounding_list, 640);
-
 /// The list into a buffer of `room` bytes: all of it, or nothing where it is longer.
-fn look_at_room(listing: Listing, sheet: &[u8], list: &[u8], room: usize, text: &str) {
+fn look_at_room(sheet: &[u8], list: &[u8], room: usize, text: &str) {
     let mut got = filled(room);
     let mut wanted = filled(room);
     let length = if list.len() <= room { list.len() } else { 0 };
@@ -60,26 +53,20 @@ fn look_at_room(listing: Listing, sheet: &[u8], list: &[u8], room: usize, text: 
     let out = &mut got[GUARD..GUARD + room];
     let told = with_copy(sheet, text, |start, length| {
         // SAFETY: two slices, and `out` is borrowed alone.
-        unsafe { listing.0(start, length, out.as_mut_ptr(), out.len()) }
+        unsafe { raw::bliskoru_list(start, length, out.as_mut_ptr(), out.len()) }
     });
     assert_eq!(told, length, "{text}");
     assert!(got == wanted, "the list's buffer: {text}");
 }
 
-fn look_at_list(listing: Listing, sheet: &[u8], list: &[u8], text: &str) {
-    for room in [listing.1, list.len() + 1, list.len(), list.len() - 1, 0] {
-        look_at_room(listing, sheet, list, room, text);
+fn look_at_list(sheet: &[u8], list: &[u8], text: &str) {
+    for room in [512, list.len() + 1, list.len(), list.len() - 1, 0] {
+        look_at_room(sheet, list, room, text);
     }
 }
 
-/// Both lists of a sheet of which nothing is priced.
-fn look_at_both(sheet: &[u8], list: &[u8], text: &str) {
-    look_at_list(CLOSING, sheet, list, text);
-    look_at_list(ROUNDING, sheet, list, text);
-}
-
 /// Judgement and answers of a sheet: a refusal at a byte, or 0 and these answers.
-fn look_at_sheet(sheet: &[u8], number: u8, byte: usize, answers: Option<[i64; 30]>, text: &str) {
+fn look_at_sheet(sheet: &[u8], number: u8, byte: usize, answers: Option<[u64; 18]>, text: &str) {
     let place = if number == 0 { FILLED } else { byte };
     let mut got = lent();
     let told = with_copy(sheet, text, |start, length| {
@@ -90,8 +77,8 @@ fn look_at_sheet(sheet: &[u8], number: u8, byte: usize, answers: Option<[i64; 30
 
     let mut got = lent();
     let told = with_copy(sheet, text, |start, length| {
-        // SAFETY: a slice, and 30 numbers and a place of our own.
-        unsafe { raw::bliskoru_closings(start, length, &mut got.answers, &mut got.place) }
+        // SAFETY: a slice, and 18 numbers and a place of our own.
+        unsafe { raw::bliskoru_answers(start, length, &mut got.answers, &mut got.place) }
     });
     let answers = answers.unwrap_or(lent().answers);
     assert_eq!((told, got), (number, Lent { place, answers, ..lent() }), "{text}");
@@ -230,12 +217,12 @@ fn refused_sheets_are_moved_to_no_header() {
 
 #[test]
 fn accepted_sheets_have_the_same_answers_with_the_other_header() {
-    for row in rows("answers", 90) {
+    for row in rows("answers", 50) {
         let Some(pair) = pair_of(&row.bytes) else {
             look_at_unmoved(&row.bytes, (19, 0), &row.text);
             continue;
         };
-        let answers = answers_of(&row);
+        let answers = std::array::from_fn(|k| row.numbers[k] as u64);
         look_at_sheet(&pair.old, 0, 0, Some(answers), &row.text);
         look_at_sheet(&pair.new, 0, 0, Some(answers), &row.text);
         look_at_moves(&pair, &row.text);
@@ -307,8 +294,8 @@ fn the_longest_sheet_has_a_text_and_a_longer_one_has_none() {
 fn the_longest_sheet_by_a_long_header_is_priced_and_has_a_text() {
     let sheet = long_nickel_of(1, 74_890, 6);
     assert_eq!(sheet.len(), 1_048_576);
-    let priced = [1, 1_800_000, 748_900_000, 0, 748_900_000];
-    let answers = thirty([priced, priced, NO_REFERENCE, NOT_REACHED, NOT_REACHED, NOT_REACHED]);
+    let answers =
+        [1, 1_800_000, 748_900_000, 1, 1_800_000, 748_900_000, 13, 0, 0, 15, 0, 0, 15, 0, 0, 15, 0, 0];
     look_at_sheet(&sheet, 0, 0, Some(answers), "longest by a long header");
     look_at_pair(&long_nickel_tape_of(1, 74_890, 6), &sheet, "longest by a long header");
     look_at_sheet(&long_nickel_of(1, 74_884, 11), 1, 0, None, "too long by a long header");
@@ -379,25 +366,23 @@ fn refused_sheets_have_their_number_and_byte() {
     for row in rows("sheets", 130) {
         let byte = row.numbers[1] as usize;
         look_at_sheet(&row.bytes, row.number(), byte, None, &row.text);
-        look_at_both(&row.bytes, format!("refused {} {byte}\n", row.number()).as_bytes(), &row.text);
+        look_at_list(&row.bytes, format!("refused {} {byte}\n", row.number()).as_bytes(), &row.text);
     }
 }
 
 #[test]
-fn accepted_sheets_have_their_answers_and_both_lists() {
-    for row in rows("answers", 90) {
-        look_at_sheet(&row.bytes, 0, 0, Some(answers_of(&row)), &row.text);
-        look_at_list(CLOSING, &row.bytes, list_of(&row, false).as_bytes(), &row.text);
-        look_at_list(ROUNDING, &row.bytes, list_of(&row, true).as_bytes(), &row.text);
+fn accepted_sheets_have_their_answers() {
+    for row in rows("answers", 50) {
+        let answers = std::array::from_fn(|k| row.numbers[k] as u64);
+        look_at_sheet(&row.bytes, 0, 0, Some(answers), &row.text);
     }
 }
 
 #[test]
 fn samples_have_their_lists() {
     for name in ["nickel", "copper", "torn", "no_reference", "resting", "third_wednesday"] {
-        let sample = |kind: &str| file(&format!("examples/{name}.{kind}"));
-        look_at_list(CLOSING, &sample("sheet"), &sample("list"), name);
-        look_at_list(ROUNDING, &sample("sheet"), &sample("rounding"), name);
+        let list = file(&format!("examples/{name}.list"));
+        look_at_list(&file(&format!("examples/{name}.sheet")), &list, name);
     }
 }
 
@@ -406,29 +391,13 @@ fn samples_have_their_lists() {
 fn the_longest_sheet_is_priced_and_a_longer_one_refused() {
     let sheet = nickel_of(74_884, 11);
     assert_eq!(sheet.len(), 1_048_576);
-    let priced = [1, 1_800_000, 748_840_000, 0, 748_840_000];
-    let answers = thirty([priced, NO_REFERENCE, NOT_REACHED, NOT_REACHED, NOT_REACHED, NOT_REACHED]);
+    let answers = [1, 1_800_000, 748_840_000, 13, 0, 0, 15, 0, 0, 15, 0, 0, 15, 0, 0, 15, 0, 0];
     look_at_sheet(&sheet, 0, 0, Some(answers), "longest");
-    look_at_both(&sheet, b"too long\n", "longest");
+    look_at_list(&sheet, b"too long\n", "longest");
     look_at_sheet(&longer(&sheet), 1, 0, None, "one byte longer");
-    look_at_both(&longer(&sheet), b"too long\n", "one byte longer");
+    look_at_list(&longer(&sheet), b"too long\n", "one byte longer");
     look_at_sheet(&vec![0; 1_048_576], 3, 0, None, "1,048,576 zero bytes");
     look_at_sheet(&vec![0; 1_048_577], 1, 0, None, "1,048,577 zero bytes");
-}
-
-/// All trades of the longest sheet by a long header on a half of 3M's step, and a cent below it: remainders, 50 and -49 for each lot, that
-/// 32 bits do not hold, and M3 has them too.
-#[test]
-fn the_greatest_remainders_are_wider_than_32_bits() {
-    let lots = 748_900_000;
-    for (cents, priced) in [
-        (1_800_050, [1, 1_800_100, lots, 37_445_000_000, lots]),
-        (1_800_049, [1, 1_800_000, lots, -36_696_100_000, lots]),
-    ] {
-        let sheet = at_price(long_nickel_of(1, 74_890, 6), 7, 74_890, cents);
-        let answers = thirty([priced, priced, NO_REFERENCE, NOT_REACHED, NOT_REACHED, NOT_REACHED]);
-        look_at_sheet(&sheet, 0, 0, Some(answers), "longest, at a half or below it");
-    }
 }
 
 /// 6 + 14 * 4,679 + 17 + 7 = 65,536.
@@ -436,26 +405,21 @@ fn the_greatest_remainders_are_wider_than_32_bits() {
 fn the_longest_listed_sheet_is_listed_and_a_longer_one_is_not() {
     let sheet = nickel_of(4_679, 1);
     assert_eq!(sheet.len(), 65_536);
-    let behind = "M3 refused 13 0\nM2 refused 15 0\nM4 refused 15 0\nM1 refused 15 0\nCash refused 15 0\n";
-    let list = format!("Nickel\n3M VWAP 1800000 46790000\n{behind}");
-    look_at_list(CLOSING, &sheet, list.as_bytes(), "65,536 bytes");
-    let list = format!("Nickel\n3M VWAP 1800000 46790000 0 46790000\n{behind}");
-    look_at_list(ROUNDING, &sheet, list.as_bytes(), "65,536 bytes");
-    look_at_both(&longer(&sheet), b"too long\n", "65,537 bytes");
+    let priced = "Nickel\n3M VWAP 1800000 46790000\nM3 refused 13 0\n";
+    let list = format!("{priced}M2 refused 15 0\nM4 refused 15 0\nM1 refused 15 0\nCash refused 15 0\n");
+    look_at_list(&sheet, list.as_bytes(), "65,536 bytes");
+    look_at_list(&longer(&sheet), b"too long\n", "65,537 bytes");
     look_at_sheet(&longer(&sheet), 5, 65_536, None, "65,537 bytes");
-    look_at_both(&vec![0; 65_536], b"refused 3 0\n", "65,536 zero bytes");
-    look_at_both(&vec![0; 65_537], b"too long\n", "65,537 zero bytes");
+    look_at_list(&vec![0; 65_536], b"refused 3 0\n", "65,536 zero bytes");
+    look_at_list(&vec![0; 65_537], b"too long\n", "65,537 zero bytes");
 }
 
-/// By a long header 7 + 14 * 4,668 + 17 * 10 + 7 = 65,536; M3 is 3M. With every trade on a half of the step 50 cents are added for each lot.
+/// By a long header 7 + 14 * 4,668 + 17 * 10 + 7 = 65,536; M3 is 3M.
 #[test]
 fn the_longest_listed_sheet_by_a_long_header_has_the_answer_of_3m_twice() {
     let sheet = long_nickel_of(1, 4_668, 10);
     assert_eq!(sheet.len(), 65_536);
-    let behind = "M2 refused 13 0\nM4 refused 15 0\nM1 refused 15 0\nCash refused 15 0\n";
-    let list = format!("Nickel\n3M VWAP 1800000 46680000\nM3 VWAP 1800000 46680000\n{behind}");
-    look_at_list(CLOSING, &sheet, list.as_bytes(), "65,536 bytes by a long header");
-    let taken = "VWAP 1800100 46680000 2334000000 46680000";
-    let list = format!("Nickel\n3M {taken}\nM3 {taken}\n{behind}");
-    look_at_list(ROUNDING, &at_price(sheet, 7, 4_668, 1_800_050), list.as_bytes(), "65,536 bytes, on a half");
+    let priced = "Nickel\n3M VWAP 1800000 46680000\nM3 VWAP 1800000 46680000\nM2 refused 13 0\n";
+    let list = format!("{priced}M4 refused 15 0\nM1 refused 15 0\nCash refused 15 0\n");
+    look_at_list(&sheet, list.as_bytes(), "65,536 bytes by a long header");
 }

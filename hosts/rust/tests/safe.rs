@@ -2,13 +2,12 @@
 
 mod common;
 
-use bliskoru::{answers, judge, list, list_into, read_field, rounding_list, rounding_list_into, write_field};
+use bliskoru::{answers, judge, list, list_into, read_field, write_field};
 use bliskoru::{sheet_to_tape, sheet_to_tape_into, tape_to_sheet, tape_to_sheet_into};
 use bliskoru::{to_new_header, to_new_header_into, to_old_header, to_old_header_into};
 use bliskoru::{Answer, Field, Method, Reason, Refusal, TapeRefusal, BID, CONTRACTS, LONGEST_TAPE, OFFER};
 use common::{
-    file, filled, list_of, long_nickel_of, longer, moves, nickel_of, nickel_tape_of, pair_of, rows,
-    tape_rows, Row,
+    file, filled, long_nickel_of, longer, moves, nickel_of, nickel_tape_of, pair_of, rows, tape_rows, Row,
 };
 use std::error::Error;
 use std::thread;
@@ -38,12 +37,12 @@ fn field_of(row: &Row) -> Field {
     }
 }
 
-/// The answer of five numbers of a row of `answers`.
+/// The answer of three numbers of a row of `answers`.
 fn answer_of(row: &[i128]) -> Answer {
-    let (cents, lots, remainder, divisor) = (row[1] as u32, row[2] as u64, row[3] as i64, row[4] as u64);
+    let (cents, lots) = (row[1] as u32, row[2] as u64);
     match row[0] {
-        1 => Answer::Priced { method: Method::Vwap, cents, lots, remainder, divisor },
-        2 => Answer::Priced { method: Method::Twap, cents, lots, remainder, divisor },
+        1 => Answer::Priced { method: Method::Vwap, cents, lots },
+        2 => Answer::Priced { method: Method::Twap, cents, lots },
         number => Answer::Refused { reason: reason(number as u8), lots },
     }
 }
@@ -84,19 +83,16 @@ fn refused_sheets_have_their_reason_and_byte() {
         assert_eq!(sheet_to_tape(&row.bytes), Err(refusal), "{}", row.text);
         assert_eq!(to_new_header(&row.bytes), Err(refusal), "{}", row.text);
         assert_eq!(to_old_header(&row.bytes), Err(refusal), "{}", row.text);
-        let line = format!("refused {} {}\n", row.number(), refusal.byte);
-        assert_eq!((list(&row.bytes), rounding_list(&row.bytes)), (line.clone(), line), "{}", row.text);
+        assert_eq!(list(&row.bytes), format!("refused {} {}\n", row.number(), refusal.byte), "{}", row.text);
     }
 }
 
 #[test]
 fn accepted_sheets_have_their_answers() {
-    for row in rows("answers", 90) {
-        let wanted = std::array::from_fn(|k| answer_of(&row.numbers[5 * k..]));
+    for row in rows("answers", 50) {
+        let wanted = std::array::from_fn(|k| answer_of(&row.numbers[3 * k..]));
         assert_eq!(judge(&row.bytes), Ok(()), "{}", row.text);
         assert_eq!(answers(&row.bytes), Ok(wanted), "{}", row.text);
-        assert_eq!(list(&row.bytes), list_of(&row, false), "{}", row.text);
-        assert_eq!(rounding_list(&row.bytes), list_of(&row, true), "{}", row.text);
         let tape = sheet_to_tape(&row.bytes).expect("a text");
         assert_eq!(tape_to_sheet(&tape).as_ref(), Ok(&row.bytes), "{}", row.text);
     }
@@ -171,7 +167,7 @@ fn moves_have_their_sheets_or_their_reason_and_byte() {
 #[test]
 fn moved_sheets_have_the_same_answers() {
     let form = Refusal { reason: Reason::HeaderForm, byte: 0 };
-    for row in rows("answers", 90) {
+    for row in rows("answers", 50) {
         let Some(pair) = pair_of(&row.bytes) else {
             assert_eq!(to_new_header(&row.bytes), Err(form), "{}", row.text);
             assert_eq!(to_old_header(&row.bytes), Err(form), "{}", row.text);
@@ -199,7 +195,7 @@ fn too_long_is_a_reason_too() {
     let refusal = Refusal { reason: Reason::SheetTooLong, byte: 0 };
     assert_eq!(judge(&longer(&sheet)), Err(refusal));
     assert_eq!(answers(&longer(&sheet)), Err(refusal));
-    assert_eq!((list(&sheet).as_str(), rounding_list(&sheet).as_str()), ("too long\n", "too long\n"));
+    assert_eq!(list(&sheet), "too long\n");
 }
 
 #[test]
@@ -229,19 +225,9 @@ fn the_nickel_sheet_is_written_judged_priced_and_listed() -> Result<(), Box<dyn 
     assert_eq!(sheet.to_vec(), file("examples/nickel.sheet"));
     judge(&sheet)?;
     assert_eq!(list(&sheet).as_bytes(), file("examples/nickel.list"));
-    assert_eq!(rounding_list(&sheet).as_bytes(), file("examples/nickel.rounding"));
     let lines =
         CONTRACTS.iter().zip(answers(&sheet)?).map(|(contract, answer)| format!("{contract} {answer}\n"));
     assert_eq!(format!("Nickel\n{}", lines.collect::<String>()), list(&sheet));
-    let taken = answers(&sheet)?.map(|answer| answer.rounding());
-    assert_eq!(taken, [(180, 6), (0, 6), (0, 5), (0, 5), (0, 300_000), (0, 300_000)].map(Some));
-    Ok(())
-}
-
-#[test]
-fn a_refused_contract_has_no_rounding() -> Result<(), Refusal> {
-    let taken = answers(&file("examples/no_reference.sheet"))?.map(|answer| answer.rounding());
-    assert_eq!(taken, [Some((0, 5)), Some((0, 5)), Some((0, 300_000)), None, None, None]);
     Ok(())
 }
 
@@ -256,12 +242,10 @@ fn a_long_header_names_the_contract_that_is_3m_and_bars_instruments() -> Result<
     let mut sheet = [0; 36];
     let at = fields.iter().try_fold(0, |at, field| write_field(&mut sheet, at, field))?;
     assert_eq!((at, read_field(&sheet, 0)?), (36, (fields[0], 7)));
-    let vwap =
-        Answer::Priced { method: Method::Vwap, cents: 1_800_000, lots: 6, remainder: -240, divisor: 6 };
+    let vwap = Answer::Priced { method: Method::Vwap, cents: 1_800_000, lots: 6 };
     let [three_months, m3, m2, ..] = answers(&sheet)?;
     assert_eq!((three_months, m3), (vwap, vwap));
-    let (method, remainder, divisor) = (Method::Twap, 0, 300_000);
-    assert_eq!(m2, Answer::Priced { method, cents: 1_800_010, lots: 0, remainder, divisor });
+    assert_eq!(m2, Answer::Priced { method: Method::Twap, cents: 1_800_010, lots: 0 });
     assert_eq!(sheet_to_tape(&sheet)?, b"METAL,Nickel,0,1\nPREV,M2-M3,0.10\n58500000,3M,TRADE,18000.40,6\n");
     write_field(&mut sheet, 7, &Field::PreviousClose { instrument: 2, cents: 10 })?;
     assert_eq!(judge(&sheet), Err(Refusal { reason: Reason::Barred, byte: 7 }));
@@ -275,8 +259,6 @@ fn no_bytes_at_all_are_lent_without_a_null_pointer() {
     assert_eq!(answers(&[]), Err(missing));
     assert_eq!(list(&[]), "refused 2 0\n");
     assert_eq!(list_into(&[], &mut []), None);
-    assert_eq!(rounding_list(&[]), "refused 2 0\n");
-    assert_eq!(rounding_list_into(&[], &mut []), None);
     assert_eq!(sheet_to_tape(&[]), Err(missing));
     assert_eq!(sheet_to_tape_into(&[], &mut []), Err(missing));
     assert_eq!(to_new_header(&[]), Err(missing));
@@ -292,14 +274,12 @@ fn no_bytes_at_all_are_lent_without_a_null_pointer() {
 
 #[test]
 fn a_list_goes_into_lent_room_whole_or_not_at_all() {
-    for into in [list_into, rounding_list_into] {
-        let mut room = [7; 14];
-        assert_eq!(into(&[], &mut room), Some(12));
-        assert_eq!(&room, b"refused 2 0\n\x07\x07");
-        let mut room = [7; 11];
-        assert_eq!(into(&[], &mut room), None);
-        assert_eq!(room, [7; 11]);
-    }
+    let mut room = [7; 14];
+    assert_eq!(list_into(&[], &mut room), Some(12));
+    assert_eq!(&room, b"refused 2 0\n\x07\x07");
+    let mut room = [7; 11];
+    assert_eq!(list_into(&[], &mut room), None);
+    assert_eq!(room, [7; 11]);
 }
 
 #[test]

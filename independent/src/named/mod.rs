@@ -1,6 +1,6 @@
-//! Hand-made sheets with their closing lists, some with their rounding lists,
-//! written by hand from the rules (docs/RULES.md, docs/SHEET.md). A name begins
-//! with its label of docs/CASES.md where there is one.
+//! Hand-made sheets with their closing lists written by hand from the rules
+//! (docs/RULES.md, docs/SHEET.md). A name begins with its label of
+//! docs/CASES.md where there is one.
 
 mod barred;
 mod edges;
@@ -11,7 +11,6 @@ mod order;
 mod papers;
 mod pricing;
 mod resting;
-mod rounding;
 mod signs;
 mod spans;
 pub mod tapes;
@@ -22,16 +21,13 @@ use crate::field::Field;
 
 pub use papers::{copper_sheet, nickel_sheet, third_wednesday_sheet};
 pub use papers::{COPPER_LIST, NICKEL_LIST, THIRD_WEDNESDAY_LIST};
-pub use papers::{COPPER_ROUNDING, NICKEL_ROUNDING, THIRD_WEDNESDAY_ROUNDING};
 
-/// A sheet, and the closing list it must give; where the case is about rounding,
-/// its rounding list too.
+/// A sheet, and the closing list it must give.
 #[derive(Clone, Debug)]
 pub struct NamedCase {
     pub name: String,
     pub sheet: Vec<u8>,
     pub list: String,
-    pub rounding: Option<String>,
 }
 
 /// Copper's windows, which most cases use.
@@ -52,7 +48,7 @@ const METALS: [Metal; 5] = [
 ];
 
 fn case(name: &str, sheet: Vec<u8>, list: &str) -> NamedCase {
-    NamedCase { name: name.to_string(), sheet, list: list.to_string(), rounding: None }
+    NamedCase { name: name.to_string(), sheet, list: list.to_string() }
 }
 
 /// A case refused with this number at this byte.
@@ -114,21 +110,16 @@ fn flat(records: &[Field]) -> Vec<u8> {
     flat_of(COPPER, 0, records)
 }
 
-/// A sheet with this header, the flat closes except one instrument's, and records.
-fn flat_behind(header: Field, instrument: u8, records: &[Field]) -> Vec<u8> {
+/// A Copper sheet with the flat closes except one instrument's, and records.
+fn flat_without(instrument: u8, records: &[Field]) -> Vec<u8> {
     let lacks = |field: &Field| match field {
         Field::PreviousClose(close) => close.instrument != instrument,
         _ => true,
     };
-    let mut fields = vec![header];
+    let mut fields = vec![header(COPPER, 0)];
     fields.extend(flat_closes().into_iter().filter(lacks));
     fields.extend(records);
     ended_sheet(&fields)
-}
-
-/// The same behind a short Copper header.
-fn flat_without(instrument: u8, records: &[Field]) -> Vec<u8> {
-    flat_behind(header(COPPER, 0), instrument, records)
 }
 
 /// A sheet with a short header, that header made a long one with this byte.
@@ -153,7 +144,6 @@ pub fn named_cases() -> Vec<NamedCase> {
     cases.extend(barred::cases());
     cases.extend(third::cases());
     cases.extend(spans::cases());
-    cases.extend(rounding::cases());
     cases.extend(papers::cut_nickel_sheets());
     cases.extend(at_the_lists_limit());
     cases

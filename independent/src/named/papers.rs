@@ -26,32 +26,6 @@ M1 TWAP 921186 0
 Cash TWAP 921236 0
 ";
 
-/// The rounding list of the Nickel sheet: 3M's sum is 10,800,420, and 6 times its
-/// close 10,800,600; every other sum is a whole number of cents for each lot or
-/// millisecond.
-pub const NICKEL_ROUNDING: &str = "\
-Nickel
-3M VWAP 1800100 6 180 6
-M3 VWAP 1799601 6 0 6
-M2 VWAP 1799301 5 0 5
-M4 VWAP 1800011 5 0 5
-M1 TWAP 1799185 0 0 300000
-Cash TWAP 1798935 0 0 300000
-";
-
-/// The rounding list of the exchange's example: M2's sum is 294,658,000, and 320
-/// times its close 294,657,920; M4's is 622,071,936, and 676 times its close
-/// 622,072,100.
-pub const COPPER_ROUNDING: &str = "\
-Copper
-3M VWAP 920100 5 0 5
-M3 VWAP 920560 375 0 375
-M2 VWAP 920806 320 -80 320
-M4 VWAP 920225 676 164 676
-M1 TWAP 921186 0 0 300000
-Cash TWAP 921236 0 0 300000
-";
-
 /// The Nickel sheet of 130 bytes (SHEET 6).
 pub fn nickel_sheet() -> Vec<u8> {
     sheet_of(&[
@@ -113,18 +87,6 @@ M2 TWAP 699908 3
 M4 VWAP 701643 7
 M1 VWAP 699541 6
 Cash TWAP 699226 0
-";
-
-/// The rounding list of that day: 3M's sum is 4,902,000, and 7 times its close
-/// 4,902,100; M4's is 4,911,500, and 7 times its close 4,911,501.
-pub const THIRD_WEDNESDAY_ROUNDING: &str = "\
-Copper
-3M VWAP 700300 7 100 7
-M3 VWAP 700300 7 100 7
-M2 TWAP 699908 3 0 300000
-M4 VWAP 701643 7 1 7
-M1 VWAP 699541 6 0 6
-Cash TWAP 699226 0 0 300000
 ";
 
 /// The sheet of that day, 179 bytes.

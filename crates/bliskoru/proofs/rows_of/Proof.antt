@@ -1,5 +1,4 @@
 -- `bliskoru::rows_of` meets its contract. Assumes nothing.
-use native.Mathlib.Omega.{arith}
 use borrow.Author.Rules.{rules}
 use Rattle.bliskoru.specs.laws.Told.{rows_are}
 use Rattle.bliskoru.proofs.rows_of.Statement.{statement}
@@ -12,11 +11,10 @@ pub rows-of-spec : {M : Type 1} → statement M
 rows-of-spec =
     tie.close
     (tie.spec
-    (λ c κs. c.requires 0 (omega arith))
-    (λ c κs. c.before.requires 1 (omega arith))
-    (λ c κs. c.before.before.requires 2 (omega arith))
-    (λ c κs. c.before.before.before.requires 3 (omega arith))
-    (λ c κs. c.before.before.before.before.requires 4 (omega arith))
-    (λ c κs. c.before.before.before.before.before.requires 5 (omega arith))
+    (λ c κs. search rules)
+    (λ c κs. search rules)
+    (λ c κs. search rules)
+    (λ c κs. search rules)
+    (λ c κs. search rules)
     (λ c κs. search rules)
     returns)

@@ -1,8 +1,8 @@
 -- What is handed over is what the definitions say: a law for each answer of the code, from what the code knows where it has that answer.
 --     told     what is read off an answer of the code is what is read off the definition that it meets
 -- Assumes nothing.
-use Rattle.std.specs.Prelude.{ℕ, ◌≤◌, ◌≡◌, refl, List, [], ◌∷◌, ◌++◌, ℤ}
-use Rattle.std.proofs.Common.{sym, ap, ap₂, subst, ◌∙◌}
+use Rattle.std.specs.Prelude.{ℕ, ◌≡◌, refl, List, [], ◌∷◌, ◌++◌, ℤ}
+use Rattle.std.proofs.Common.{sym, ap, ◌∙◌}
 use Rattle.field.specs.declared.Field.{Field}
 use Rattle.field.specs.declared.Read.{Read}
 use Rattle.field.specs.declared.Read.TheVariants as R
@@ -13,29 +13,30 @@ use Rattle.sheet.specs.declared.Day.{Day}
 use Rattle.sheet.specs.declared.Judged.{Judged}
 use Rattle.sheet.specs.declared.Judged.TheVariants as J
 use Rattle.sheet.specs.Judgement.{Verdict, judged_says}
-use Rattle.price_rules.specs.declared.Method.{Method}
-use Rattle.price_rules.specs.declared.Answer.{Answer}
-use Rattle.price_rules.specs.declared.Answer.TheVariants as A
 use Rattle.price_rules.specs.declared.SixAnswers.{SixAnswers}
 use Rattle.price_rules.specs.declared.Closed.{Closed}
 use Rattle.price_rules.specs.declared.Closed.TheVariants as C
 use Rattle.price_rules.specs.Closing.{Told, Answers}
-use Rattle.price_rules.specs.Says.{answer_says, closings_say, closed_says}
-use Rattle.six_answers.specs.laws.Sizes.{Within}
+use Rattle.price_rules.specs.Says.{closings_say, closed_says}
 use Rattle.filled_buffer.specs.declared.Filled.{Filled}
 use Rattle.filled_buffer.specs.declared.Filled.TheVariants as Filled
 use Rattle.text.specs.declared.Put.{Put}
+use Rattle.text.specs.declared.Put.TheVariants.{Next, Full}
 use Rattle.bliskoru.specs.declared.Row.{Row}
 use Rattle.bliskoru.specs.Host.{filled_number, filled_length, filled_place, length_or0, verdict_number, verdict_byte, row_of, rows_of, answers_number, answers_byte, answers_rows, values_of, said_number, said_next, read_values}
-use Rattle.bliskoru.specs.laws.Host.{row_says, row_read}
+use Rattle.bliskoru.specs.laws.Host.{row_says}
 
 told : {A B C : Type 0} (g : B → C) (says : A → B) {r x : A} {d : B} → says r ≡ d → r ≡ x → g (says x) ≡ g d
 told g says e f = ap g (sym (ap says f) ∙ e)
 
--- ---- a list
+-- ---- the list
 
-pub list-handed : {n : ℕ} {r d : Put} {b c : List ℕ} → n ≡ length_or0 r → (r ≡ d) × (b ≡ c) → (n ≡ length_or0 d) × (b ≡ c)
-list-handed e is = (e ∙ ap length_or0 is.0, is.1)
+module _ {d r : Put} (e : r ≡ d) where
+  pub listed : {n : ℕ} → r ≡ Next n → n ≡ length_or0 d
+  listed f = told length_or0 (λ x. x) e f
+
+  pub no_room : r ≡ Full → 0 ≡ length_or0 d
+  no_room f = told length_or0 (λ x. x) e f
 
 -- ---- what was put at the start of a buffer
 
@@ -92,7 +93,7 @@ module _ {d : Answers} {r : Closed} (e : closed_says r ≡ d) where
     pub six-byte : (old : ℕ) → old ≡ answers_byte old d
     six-byte old = told (answers_byte old) closed_says e f
 
-    pub six-rows : (old : List ℤ) {rows : List ℤ} → rows ≡ rows_of (closings_say k) → rows ≡ answers_rows old d
+    pub six-rows : (old : List ℕ) {rows : List ℕ} → rows ≡ rows_of (closings_say k) → rows ≡ answers_rows old d
     six-rows old h = h ∙ told (answers_rows old) closed_says e f
 
   module _ {number at : ℕ} (f : r ≡ C.Refused number at) where
@@ -102,7 +103,7 @@ module _ {d : Answers} {r : Closed} (e : closed_says r ≡ d) where
     pub none-byte : (old : ℕ) → at ≡ answers_byte old d
     none-byte old = told (answers_byte old) closed_says e f
 
-    pub none_rows : (old : List ℤ) → old ≡ answers_rows old d
+    pub none_rows : (old : List ℕ) → old ≡ answers_rows old d
     none_rows old = told (answers_rows old) closed_says e f
 
 -- ---- one field that is read, and one that is written
@@ -145,21 +146,6 @@ module _ {d : Said (Unit {0})} {r : Written} (e : written_says r ≡ d) where
 
 -- ---- the rows, and a field's values
 
--- an answer's bounds, as the code takes it apart
-module _ {a : Answer} (h : Within (answer_says a)) where
-  pub priced-within : {method : Method} {m lots divisor : ℕ} {remainder : ℤ} → a ≡ A.Priced method m lots remainder divisor → (lots ≤ 2995920000) × (divisor ≤ 2995920000)
-  priced-within e = subst (λ (x : Answer). Within (answer_says x)) e h
-
-  pub unpriced-within : {lots : ℕ} → a ≡ A.NoReference lots → lots ≤ 2995920000
-  unpriced-within e = subst (λ (x : Answer). Within (answer_says x)) e h
-
-  pub outside-within : {lots : ℕ} → a ≡ A.OutOfRange lots → lots ≤ 2995920000
-  outside-within e = subst (λ (x : Answer). Within (answer_says x)) e h
-
-pub joined : {a b c d e f : Row} → row_read a ≡ row_says a → row_read b ≡ row_says b → row_read c ≡ row_says c → row_read d ≡ row_says d → row_read e ≡ row_says e → row_read f ≡ row_says f
-    → row_read a ++ row_read b ++ row_read c ++ row_read d ++ row_read e ++ row_read f ≡ row_says a ++ row_says b ++ row_says c ++ row_says d ++ row_says e ++ row_says f
-joined p q k l m n = ap₂ ◌++◌ p (ap₂ ◌++◌ q (ap₂ ◌++◌ k (ap₂ ◌++◌ l (ap₂ ◌++◌ m n))))
-
-pub rows_are : {a b c d e f : Row} (s t u v w x : Told) {rows : List ℤ} → rows ≡ row_says a ++ row_says b ++ row_says c ++ row_says d ++ row_says e ++ row_says f
-    → row_says a ≡ row_of s → row_says b ≡ row_of t → row_says c ≡ row_of u → row_says d ≡ row_of v → row_says e ≡ row_of w → row_says f ≡ row_of x → rows ≡ rows_of (s ∷ t ∷ u ∷ v ∷ w ∷ x ∷ [])
-rows_are s t u v w x j p q k l m n = j ∙ rw (sym p, sym q, sym k, sym l, sym m, sym n) refl
+pub rows_are : {a b c d e f : Row} (s t u v w x : Told) → row_says a ≡ row_of s → row_says b ≡ row_of t → row_says c ≡ row_of u → row_says d ≡ row_of v → row_says e ≡ row_of w → row_says f ≡ row_of x
+    → row_says a ++ row_says b ++ row_says c ++ row_says d ++ row_says e ++ row_says f ≡ rows_of (s ∷ t ∷ u ∷ v ∷ w ∷ x ∷ [])
+rows_are s t u v w x p q k l m n = rw (sym p, sym q, sym k, sym l, sym m, sym n) refl

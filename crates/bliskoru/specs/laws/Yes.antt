@@ -29,7 +29,6 @@ use Rattle.filled_buffer.specs.Filling as Filling
 use Rattle.filled_buffer.specs.laws.Filling.{of-sheet-some, limit-some, room-some}
 use Rattle.price_rules.specs.Closing.{Answers, six, none-priced, answers_of}
 use Rattle.names.specs.Names.{metal_name, too_long_name}
-use Rattle.list_lines.specs.declared.Kind.{Kind}
 use Rattle.list_lines.specs.Listing.{space, line_feed, line, refusal, answer_lines, list_text, list_of}
 use Rattle.sheet.specs.laws.Earned.{Earned, too_long, bad-shape, bad-field, trailing, earned}
 
@@ -154,15 +153,15 @@ line-some (item ∷ next ∷ items) = behind-some item (space ∷ line (next ∷
 before-some : (xs ys : List ℕ) → 0 < length xs → 0 < length (xs ++ ys)
 before-some xs ys h = simp length-append (omega arith)
 
-text-some : (kind : Kind) (answers : Answers) → 0 < length (list_text kind answers)
+text-some : (answers : Answers) → 0 < length (list_text answers)
 unfolding list_text
-text-some kind (six day tolds) = before-some (line (metal_name day.metal ∷ [])) (answer_lines kind 0 tolds) (line-some (metal_name day.metal ∷ []))
-text-some kind (none-priced number at) = line-some (refusal number at)
+text-some (six day tolds) = before-some (line (metal_name day.metal ∷ [])) (answer_lines 0 tolds) (line-some (metal_name day.metal ∷ []))
+text-some (none-priced number at) = line-some (refusal number at)
 
-pub list-some : (kind : Kind) (s : List ℕ) → 0 < length (list_of kind s)
+pub list-some : (s : List ℕ) → 0 < length (list_of s)
 unfolding list_of
-list-some kind s = by (leb (length s) 65536)
+list-some s = by (leb (length s) 65536)
   where
-    by : (t : Bool) → 0 < length (cond t (list_text kind (answers_of s)) (line (too_long_name ∷ [])))
-    by true = text-some kind (answers_of s)
+    by : (t : Bool) → 0 < length (cond t (list_text (answers_of s)) (line (too_long_name ∷ [])))
+    by true = text-some (answers_of s)
     by false = line-some (too_long_name ∷ [])

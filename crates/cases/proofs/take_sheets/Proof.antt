@@ -53,20 +53,20 @@ sub-if1 c = search rules
 returns : tie.Need-returns invariant-loop decreases-loop
 returns c = search rules
 
-add-print-lists : tie.Need-overflow-add-print-lists invariant-loop decreases-loop
-add-print-lists c = search rules
+add-print-list : tie.Need-overflow-add-print-list invariant-loop decreases-loop
+add-print-list c = search rules
 
-sub-print-lists : tie.Need-overflow-sub-print-lists invariant-loop decreases-loop
-sub-print-lists c = search rules
+sub-print-list : tie.Need-overflow-sub-print-list invariant-loop decreases-loop
+sub-print-list c = search rules
 
-part-print-lists-start : tie.Need-slice-bounds-print-lists-start invariant-loop decreases-loop
-part-print-lists-start c = search rules
+part-print-list-start : tie.Need-slice-bounds-print-list-start invariant-loop decreases-loop
+part-print-list-start c = search rules
 
-part-print-lists-end : tie.Need-slice-bounds-print-lists-end invariant-loop decreases-loop
-part-print-lists-end c = search rules
+part-print-list-end : tie.Need-slice-bounds-print-list-end invariant-loop decreases-loop
+part-print-list-end c = search rules
 
-print-lists-requires : tie.Need-print-lists-requires invariant-loop decreases-loop
-print-lists-requires c κs = search rules
+print-list-requires : tie.Need-print-list-requires invariant-loop decreases-loop
+print-list-requires c κs = search rules
 
 add_at : tie.Need-overflow-add-at invariant-loop decreases-loop
 add_at c = search rules
@@ -100,11 +100,11 @@ take-sheets-spec =
     add-from
     sub-if1
     returns
-    add-print-lists
-    sub-print-lists
-    part-print-lists-start
-    part-print-lists-end
-    print-lists-requires
+    add-print-list
+    sub-print-list
+    part-print-list-start
+    part-print-list-end
+    print-list-requires
     add_at
     loop-less
     loop-again

@@ -13,7 +13,7 @@ cast-rounded-sum : tie.Need-overflow-cast-rounded-sum
 cast-rounded-sum c = let n = natural c.before.ranges.n c.if1.false in (n.nonneg, omega arith)
 
 rounded-sum-requires : tie.Need-rounded-sum-requires
-rounded-sum-requires c κs = ((natural c.before.ranges.n c.if1.false).small, c.before.requires)
+rounded-sum-requires c κs = (natural c.before.ranges.n c.if1.false).small
 
 returns-2 : tie.Need-returns-2
 returns-2 c = search round-natural

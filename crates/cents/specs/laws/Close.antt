@@ -1,55 +1,46 @@
 -- What the code says of a rounded price.
 --     answer-means          no two answers say the same
---     remainder_is          the remainder as the code computes it
 --     close-in, round-..    a law for each return of the code, from what it knows there
 -- Assumes nothing.
-use Rattle.std.specs.Prelude.{◌≡◌, refl, true, false, ℕ, zero, suc, ◌+◌, ◌*◌, ◌/◌, ◌%◌, ◌^◌, ◌≤◌, ◌<◌, ℤ, pos, negsuc, neg_ℤ, nat_abs, ◌-ℤ◌, ◌*ℤ◌}
-use Rattle.std.proofs.Common.{sym, ap, ◌∙◌, mul_comm, mul_assoc, mul_left_comm, mul-one, mul-zero, div-mul-le_self, div-add-mod', mod-lt, le-div_iff_mul-le, div-lt_iff_lt-mul, mul-le-mul, suc-mul, add-mul, arith, le-leb, ltb-true, SFits, to_z, of_z, to_z-of_z}
+use Rattle.std.specs.Prelude.{◌≡◌, refl, true, false, ℕ, zero, suc, ◌+◌, ◌*◌, ◌/◌, ◌%◌, ◌≤◌, ◌<◌, ℤ, pos, negsuc, neg_ℤ, nat_abs, ◌*ℤ◌}
+use Rattle.std.proofs.Common.{sym, ap, ◌∙◌, mul_comm, mul_assoc, mul_left_comm, mul-one, mul-zero, div-mul-le_self, div-add-mod', mod-lt, le-div_iff_mul-le, div-lt_iff_lt-mul, suc-mul, add-mul, arith, le-leb, ltb-true, SFits, to_z, of_z, to_z-of_z}
 use Rattle.std.proofs.Math.Nat.{div-zero, div-eq_of_lt, div-div-eq-div-mul, add-mul-div_left, lt-div-mul-add}
 use Rattle.std.proofs.lemmas.Bool.{lt-leb}
 use Rattle.std.specs.Int.Signed.{lt_z}
 use Rattle.std.specs.Int.{w64}
 use Rattle.cents.specs.declared.Rounded.{Rounded}
 use Rattle.cents.specs.declared.Rounded.TheVariants.{Close, OutOfRange}
-use Rattle.cents.specs.laws.Whole.{Diff, is, is-*, is-+, is_pos, is--, diff-size, natural, Known, known_is, cast-own, minus}
-use Rattle.cents.specs.Round.{floor, limit, round, remainder}
-use Rattle.cents.specs.Close.{Said, means, close_of, close_from, close, refused}
+use Rattle.cents.specs.laws.Whole.{Diff, is, is-*, is-+, is_pos, natural}
+use Rattle.cents.specs.Round.{floor, limit, round}
+use Rattle.cents.specs.Close.{Said, means, close_of, close, refused}
 
 -- the answer that says it, so that no two answers say the same
 abbrev pub answer : Said → Rounded
-answer (close m r) = Close m r
+answer (close m) = Close m
 answer (refused number) = OutOfRange
 
 pub answer-means : (r : Rounded) → answer (means r) ≡ r
-answer-means (Close m r) = refl
+answer-means (Close m) = refl
 answer-means OutOfRange = refl
 
 -- ---- which case it is
 
-pub close-in : (m : ℕ) (r : ℤ) → (m ≡ 0 → ⊥) → m ≤ 99999999 → close m r ≡ close_of (pos m) r
+pub close-in : (m : ℕ) → (m ≡ 0 → ⊥) → m ≤ 99999999 → close m ≡ close_of (pos m)
 unfolding close_of
-close-in m r h k = simp (le-leb 1 m (omega arith), le-leb m 99999999 k)
+close-in m h k = simp (le-leb 1 m (omega arith), le-leb m 99999999 k)
 
-pub close-above : (m : ℕ) (r : ℤ) → 99999999 < m → refused 14 ≡ close_of (pos m) r
+pub close-above : (m : ℕ) → 99999999 < m → refused 14 ≡ close_of (pos m)
 unfolding close_of
-close-above m r h = simp (le-leb 1 m (omega arith), lt-leb m 99999999 h)
+close-above m h = simp (le-leb 1 m (omega arith), lt-leb m 99999999 h)
 
-pub close-zero : (m : ℕ) (r : ℤ) → m ≡ 0 → refused 14 ≡ close_of (pos m) r
+pub close-zero : (m : ℕ) → m ≡ 0 → refused 14 ≡ close_of (pos m)
 unfolding close_of
-close-zero m r e = rw e
+close-zero m e = rw e
 
-close-neg : (m : ℕ) (r : ℤ) → refused 14 ≡ close_of (neg_ℤ (pos m)) r
+close-neg : (m : ℕ) → refused 14 ≡ close_of (neg_ℤ (pos m))
 unfolding close_of
-close-neg zero r = refl
-close-neg (suc m) r = refl
-
--- the remainder of a close, as the code computes it: neither product nor sum has a sign, so their difference is within 64 bits
-module _ (n d m : ℕ) (n-in : n < 2 ^ 63) (d-in : d ≤ 2 ^ 36) (m-in : m ≤ 99999999) where
-  pub product-in : d * m < 2 ^ 63
-  product-in = omega (arith, mul-le-mul d-in m-in)
-
-  pub remainder_is : Known 9223372036854775807 (to_z w64 (d * m) -ℤ to_z w64 n) (remainder (pos n) d (pos m))
-  remainder_is = known_is (minus (cast-own product-in) (cast-own n-in)).known (diff-size (is-- (is_pos (d * m)) (is_pos n)) (omega (arith, product-in)) (omega arith))
+close-neg zero = refl
+close-neg (suc m) = refl
 
 -- ---- the code's way: 2N/D rounded down, of that the steps, and these times u
 
@@ -81,12 +72,11 @@ round-nearest n d u d>0 = ap pos (mul_comm u ((2 * n + d * u) / (2 * d * u)) ∙
     ∙ sym (div-div-eq-div-mul (2 * n + d * u) d (2 * u))
     ∙ ap (λ (v : ℕ). v / (2 * u)) (add-mul-div_left (2 * n) u d>0)))
 
-pub round-steps : (n d u k : ℕ) {x : Said} → (d ≡ 0 → ⊥) → k ≡ nearest (2 * n / d) u → x ≡ close_of (pos (k * u)) (remainder (pos n) d (pos (k * u))) → x ≡ close_from (pos n) d u
-unfolding close_from
-round-steps n d u k d≢0 e h = h ∙ ap (λ (z : ℤ). close_of z (remainder (pos n) d z)) (ap (λ (v : ℕ). pos (v * u)) e ∙ sym (round-nearest n d u (omega arith)))
+pub round-steps : (n d u k : ℕ) {x : Said} → (d ≡ 0 → ⊥) → k ≡ nearest (2 * n / d) u → x ≡ close_of (pos (k * u)) → x ≡ close_of (round (pos n) d u)
+round-steps n d u k d≢0 e h = h ∙ rw (e, round-nearest n d u (omega arith))
 
 -- steps of 1 cent are the cents themselves
-pub round-cents : (n d u k : ℕ) {x : Said} → u ≡ 1 → (d ≡ 0 → ⊥) → k ≡ nearest (2 * n / d) 1 → x ≡ close_of (pos k) (remainder (pos n) d (pos k)) → x ≡ close_from (pos n) d u
+pub round-cents : (n d u k : ℕ) {x : Said} → u ≡ 1 → (d ≡ 0 → ⊥) → k ≡ nearest (2 * n / d) 1 → x ≡ close_of (pos k) → x ≡ close_of (round (pos n) d u)
 round-cents n d u k u≡1 d≢0 e h = rw u≡1 (round-steps n d 1 k d≢0 e (rw (mul-one k) h))
 
 -- they are not above h + u, so that the code's product fits
@@ -94,31 +84,31 @@ pub steps-le : (h u k : ℕ) → k ≡ nearest h u → k * u ≤ h + u
 steps-le h u k e = rw e (omega (arith, div-mul-le_self (h + u) (2 * u), mul_left_comm (nearest h u) 2 u))
 
 -- and twice they are above h − u, so that they are above the range where h is far above it
-pub round-above : (n d u : ℕ) → (d ≡ 0 → ⊥) → (u ≡ 0 → ⊥) → 2 * 99999999 + u ≤ 2 * n / d → refused 14 ≡ close_from (pos n) d u
-round-above n d u d≢0 u≢0 h = round-steps n d u (nearest (2 * n / d) u) d≢0 refl (close-above _ _ (omega (arith, above (2 * n / d))))
+pub round-above : (n d u : ℕ) → (d ≡ 0 → ⊥) → (u ≡ 0 → ⊥) → 2 * 99999999 + u ≤ 2 * n / d → refused 14 ≡ close_of (round (pos n) d u)
+round-above n d u d≢0 u≢0 h = round-steps n d u (nearest (2 * n / d) u) d≢0 refl (close-above _ (omega (arith, above (2 * n / d))))
   where
     above : (h : ℕ) → h < 2 * (nearest h u * u) + u
     above h = omega (arith, lt-div-mul-add {a = h + u} {b = 2 * u} (omega arith), mul_left_comm (nearest h u) 2 u)
 
 -- no close where D or u is 0
-pub round-none : (n d u : ℕ) → d * u ≡ 0 → refused 14 ≡ close_from (pos n) d u
-unfolding close_from round
-round-none n d u e = close-zero _ _ (simp (mul_assoc, e, div-zero, mul-zero))
+pub round-none : (n d u : ℕ) → d * u ≡ 0 → refused 14 ≡ close_of (round (pos n) d u)
+unfolding round
+round-none n d u e = close-zero _ (simp (mul_assoc, e, div-zero, mul-zero))
 
 -- a sum below zero rounds to no close
-low : (z : ℤ) (u m a b : ℕ) (r : ℤ) → Diff z a b → a ≤ m → 0 < b → refused 14 ≡ close_of (pos u *ℤ floor z m) r
-low (pos e) u m a b r h k p = let n : e < m = omega arith in close-zero _ _ (simp (div-eq_of_lt n, mul-zero))
-low (negsuc e) u m a b r h k p = close-neg (u * suc (e / m)) r
+low : (z : ℤ) (u m a b : ℕ) → Diff z a b → a ≤ m → 0 < b → refused 14 ≡ close_of (pos u *ℤ floor z m)
+low (pos e) u m a b h k p = let n : e < m = omega arith in close-zero _ (simp (div-eq_of_lt n, mul-zero))
+low (negsuc e) u m a b h k p = close-neg (u * suc (e / m))
 
-below : (n : ℤ) (d u : ℕ) → lt_z n (pos 0) ≡ true → refused 14 ≡ close_from n d u
-unfolding close_from round
+below : (n : ℤ) (d u : ℕ) → lt_z n (pos 0) ≡ true → refused 14 ≡ close_of (round n d u)
+unfolding round
 below (pos a) d u t = absurd (omega (arith, ltb-true a 0 t))
-below (negsuc a) d u t = low (limit (negsuc a) d u) u (2 * d * u) (2 * 0 + d * u) (2 * suc a + 0) _ (is-+ (is-* 2 (is (negsuc a))) (is_pos (d * u))).diff (omega (arith, mul_assoc 2 d u)) (omega arith)
+below (negsuc a) d u t = low (limit (negsuc a) d u) u (2 * d * u) (2 * 0 + d * u) (2 * suc a + 0) (is-+ (is-* 2 (is (negsuc a))) (is_pos (d * u))).diff (omega (arith, mul_assoc 2 d u)) (omega arith)
 
 -- the code's test of the sign, as the machine reads the sum
 module _ (n : ℤ) (d u : ℕ) (f : SFits w64 n) where
-  pub round-below : lt_z (to_z w64 (of_z w64 n)) (pos 0) ≡ true → refused 14 ≡ close_from n d u
+  pub round-below : lt_z (to_z w64 (of_z w64 n)) (pos 0) ≡ true → refused 14 ≡ close_of (round n d u)
   round-below t = below n d u (rw (to_z-of_z f) at t)
 
-  pub round-natural : {x : Said} → lt_z (to_z w64 (of_z w64 n)) (pos 0) ≡ false → x ≡ close_from (pos (nat_abs (to_z w64 (of_z w64 n)))) d u → x ≡ close_from n d u
+  pub round-natural : {x : Said} → lt_z (to_z w64 (of_z w64 n)) (pos 0) ≡ false → x ≡ close_of (round (pos (nat_abs (to_z w64 (of_z w64 n)))) d u) → x ≡ close_of (round n d u)
   round-natural t h = rw (natural f t).value at h

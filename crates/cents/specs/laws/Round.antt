@@ -2,19 +2,18 @@
 --     round-greatest     it is what RULES 8 says, and by greatest-unique nothing else is
 --     round-shift        N moved by D times a multiple of the step moves it by that multiple
 --     round_mono         a greater N gives no smaller number
---     round-near         its remainder is at most half a step times D, either way, a half only above;  near-half    so its size is
---     remainder-exact    it times D is N and the remainder;  remainder-shift    which stays where N is moved by D times as much as it is
+--     round-near         it is at most half a step from N/D, and half a step only above it
 --     round_whole        a sum that D divides is rounded as its quotient
 --     rounding-examples  the worked examples of RULES 8
 -- Assumes nothing.
-use Rattle.std.specs.Prelude.{◌≡◌, refl, List, [], ◌∷◌, ℕ, suc, ◌+◌, ◌*◌, ◌/◌, ◌≤◌, ◌<◌, ℤ, negsuc, neg_ℤ, nat_abs, ◌+ℤ◌, ◌-ℤ◌, ◌*ℤ◌, ◌≤ℤ◌, ◌<ℤ◌}
+use Rattle.std.specs.Prelude.{◌≡◌, refl, List, [], ◌∷◌, ℕ, suc, ◌+◌, ◌*◌, ◌/◌, ◌≤◌, ◌<◌, ℤ, negsuc, neg_ℤ, ◌+ℤ◌, ◌-ℤ◌, ◌*ℤ◌, ◌≤ℤ◌, ◌<ℤ◌}
 use Rattle.std.proofs.Math.Path.{ap}
 use Rattle.std.proofs.Common.{◌∙◌, subst, mul-add, mul_comm, mul_left_comm, le-div_iff_mul-le, div-lt_iff_lt-mul, mul-pos, lt_of_not-le, add-one, arith, leb→le, le→leb}
 use Rattle.std.proofs.Math.Nat.{mul_assoc, mul-div-le, lt-mul-div-succ}
 use Rattle.std.proofs.Math.IntN.{pos, -ℤ-+ℤ_cancel}
 use Rattle.std.specs.Int.Signed.{≤ℤ_refl}
-use Rattle.cents.specs.laws.Whole.{up, down, is, is-+, is--, is-neg, is-*, is_pos, show-≡, show-≤, show-<, read-≤, read-<, ≤ℤ-trans, ≤ℤ-antisym, +ℤ-mono, *ℤ-+ℤ, *ℤ-mono, *ℤ-cancel, *ℤ-*ℤ}
-use Rattle.cents.specs.Round.{floor, limit, round, remainder, Greatest, Near}
+use Rattle.cents.specs.laws.Whole.{up, down, is, is-+, is--, is-neg, is-*, is_pos, show-≡, show-≤, show-<, read-≤, ≤ℤ-trans, ≤ℤ-antisym, +ℤ-mono, *ℤ-+ℤ, *ℤ-mono, *ℤ-cancel, *ℤ-*ℤ}
+use Rattle.cents.specs.Round.{floor, limit, round, Greatest}
 
 -- ---- division rounded down: m·k ≤ z exactly where k ≤ floor z m
 
@@ -57,17 +56,16 @@ next-over {u = u} {m = m} u>0 g h = omega (arith, read-≤ (is-+ (is m) (is_pos 
     next : pos u *ℤ (g.steps +ℤ pos 1) ≡ m +ℤ pos u
     next = rw g.multiple (show-≡ (is-* u (is-+ (is g.steps) (is_pos 1))) (is-+ (is-* u (is g.steps)) (is_pos u)) (omega (arith, mul-add u (up g.steps) 1, mul-add u (down g.steps) 0)))
 
-greatest-near : {n : ℤ} {d u : ℕ} {m : ℤ} → 0 < u → Greatest n d u m → Near d u (remainder n d m)
+greatest-near : {n : ℤ} {d u : ℕ} {m : ℤ} → 0 < u → Greatest n d u m → (neg_ℤ (pos (d * u)) <ℤ (pos 2 *ℤ (pos d *ℤ m -ℤ n))) × ((pos 2 *ℤ (pos d *ℤ m -ℤ n)) ≤ℤ pos (d * u))
 greatest-near {n} {d} {u} {m} u>0 g =
     let off = is-* 2 (is-- (is-* d (is m)) (is n)) in
     let most = is-+ (is-* 2 (is n)) (is_pos (d * u)) in
     let p = mul_assoc 2 d (up m) in
     let q = mul_assoc 2 d (down m) in
-    let over = lt_of_not-le (λ e. next-over u>0 g (show-≤ (is-* (2 * d) (is-+ (is m) (is_pos u))) most e)) in
-    record {
-      above = show-< (is-neg (is_pos (d * u))) off (omega (arith, mul-add (2 * d) (up m) u, mul-add (2 * d) (down m) 0, mul_assoc 2 d u));
-      most = show-≤ off (is_pos (d * u)) (omega (arith, read-≤ (is-* (2 * d) (is m)) most g.under));
-    }
+    let over = lt_of_not-le (λ e. next-over u>0 g (show-≤ (is-* (2 * d) (is-+ (is m) (is_pos u))) most e)) in (
+      show-< (is-neg (is_pos (d * u))) off (omega (arith, mul-add (2 * d) (up m) u, mul-add (2 * d) (down m) 0, mul_assoc 2 d u)),
+      show-≤ off (is_pos (d * u)) (omega (arith, read-≤ (is-* (2 * d) (is m)) most g.under)),
+    )
 
 module _ (n : ℤ) (d u : ℕ) (d>0 : 0 < d) (u>0 : 0 < u) where
   2du>0 : 0 < 2 * d * u
@@ -99,7 +97,8 @@ module _ (n : ℤ) (d u : ℕ) (d>0 : 0 < d) (u>0 : 0 < u) where
   pub round-shift-by : (t : ℕ) (k : ℤ) → round (n +ℤ pos d *ℤ (pos (u * t) *ℤ k)) d u ≡ round n d u +ℤ pos (u * t) *ℤ k
   round-shift-by t k = rw (← *ℤ-*ℤ u t k) (round-shift (pos t *ℤ k))
 
-  pub round-near : Near d u (remainder n d (round n d u))
+  -- −Du < 2(rD − N) ≤ Du, where r is the rounded number
+  pub round-near : (neg_ℤ (pos (d * u)) <ℤ (pos 2 *ℤ (pos d *ℤ round n d u -ℤ n))) × ((pos 2 *ℤ (pos d *ℤ round n d u -ℤ n)) ≤ℤ pos (d * u))
   round-near = greatest-near u>0 round-greatest
 
 pub round_mono : (n n' : ℤ) (d u : ℕ) → 0 < d → 0 < u → n ≤ℤ n' → round n d u ≤ℤ round n' d u
@@ -126,44 +125,26 @@ scaled d u d>0 {x} {m} g = record {
 pub round_whole : (x : ℤ) (d u : ℕ) → 0 < d → 0 < u → round (pos d *ℤ x) d u ≡ round x 1 u
 round_whole x d u d>0 u>0 = greatest-unique (round-greatest (pos d *ℤ x) d u d>0 u>0) (scaled d u d>0 (round-greatest x 1 u (omega arith) u>0))
 
--- ---- the remainder
-
-pub remainder-exact : (n : ℤ) (d : ℕ) (m : ℤ) → pos d *ℤ m ≡ n +ℤ remainder n d m
-remainder-exact n d m = show-≡ (is-* d (is m)) (is-+ (is n) (is-- (is-* d (is m)) (is n))) (omega arith)
-
-pub remainder-shift : (n : ℤ) (d : ℕ) (m δ : ℤ) → remainder (n +ℤ pos d *ℤ δ) d (m +ℤ δ) ≡ remainder n d m
-remainder-shift n d m δ = show-≡
-    (is-- (is-* d (is-+ (is m) (is δ))) (is-+ (is n) (is-* d (is δ))))
-    (is-- (is-* d (is m)) (is n))
-    (omega (arith, mul-add d (up m) (up δ), mul-add d (down m) (down δ)))
-
--- never more than half a step times the divisor, either way
-pub near-half : (d u : ℕ) (r : ℤ) → Near d u r → 2 * nat_abs r ≤ d * u
-near-half d u (pos a) h = omega (arith, read-≤ (is-* 2 (is (pos a))) (is_pos (d * u)) h.most)
-near-half d u (negsuc a) h = omega (arith, read-< (is-neg (is_pos (d * u))) (is-* 2 (is (negsuc a))) h.above)
-
 -- ---- the worked examples of RULES 8
 
--- a row of the table: sum, divisor, step, rounded number, remainder
+-- a row of the table: sum, divisor, step, rounded number
 pub data Row : Type 0 where
-  row : ℤ → ℕ → ℕ → ℤ → ℤ → Row
+  row : ℤ → ℕ → ℕ → ℤ → Row
 
--- each row's sum over its divisor, to its step, is its number, and leaves its remainder
+-- each row's sum over its divisor, to its step, is its number
 abbrev pub Hold : List Row → Type 0
 Hold [] = Unit {0}
-Hold (row n d u m r ∷ rows) = (round n d u ≡ m) × (remainder n d m ≡ r) × Hold rows
+Hold (row n d u m ∷ rows) = (round n d u ≡ m) × Hold rows
 
 -- the worked examples, and that halves go up below zero too
 abbrev pub examples : List Row
 examples =
-    row (pos 920125) 1 50 (pos 920150) (pos 25) ∷  -- P6
-    row (pos 920124) 1 50 (pos 920100) (neg_ℤ (pos 24)) ∷  -- P7
-    row (pos 1800049) 1 100 (pos 1800000) (neg_ℤ (pos 49)) ∷  -- P8
-    row (pos 294658000) 320 1 (pos 920806) (neg_ℤ (pos 80)) ∷  -- P2
-    row (pos 5) 2 1 (pos 3) (pos 1) ∷  -- ours: 5/2 is 3
-    row (neg_ℤ (pos 5)) 2 1 (neg_ℤ (pos 2)) (pos 1) ∷  -- ours: −5/2 is −2
+    row (pos 920125) 1 50 (pos 920150) ∷  -- P6
+    row (pos 920124) 1 50 (pos 920100) ∷  -- P7
+    row (pos 1800049) 1 100 (pos 1800000) ∷  -- P8
+    row (neg_ℤ (pos 5)) 2 1 (neg_ℤ (pos 2)) ∷  -- ours: −5/2 is −2
     []
 
 pub rounding-examples : Hold examples
 unfolding round
-rounding-examples = (refl, refl, (refl, refl, (refl, refl, (refl, refl, (refl, refl, (refl, refl, tt))))))
+rounding-examples = (refl, (refl, (refl, (refl, tt))))

@@ -143,15 +143,6 @@ module _ {x y : ℤ} {a b c d : ℕ} (p : IsDiff x a b) (q : IsDiff y c d) where
   pub read-ge : lt_z x y ≡ false → c + b ≤ a + d
   read-ge e = read-≤ q p (lt_z_no (failed e))
 
--- a difference is no larger than the greater of the two
-module _ {a b B : ℕ} where
-  size_in : (z : ℤ) → Diff z a b → a ≤ B → b ≤ B → nat_abs z ≤ B
-  size_in (pos n) h k l = omega arith
-  size_in (negsuc n) h k l = omega arith
-
-  pub diff-size : {z : ℤ} → IsDiff z a b → a ≤ B → b ≤ B → nat_abs z ≤ B
-  diff-size {z} p k l = size_in z p.diff k l
-
 -- ---- laws of the order and of multiples
 
 pub ≤ℤ-trans : {x y z : ℤ} → x ≤ℤ y → y ≤ℤ z → x ≤ℤ z

@@ -3,9 +3,7 @@ use mathlib.Core.Path.{◌≡◌, ◌∙◌}
 use native.Mathlib.Omega.{arith}
 use Rattle.market.specs.Market.{contract_of, step_of}
 use Rattle.market.specs.laws.Rules.{Ruled}
-use Rattle.twap.specs.Span.{span_says}
-use Rattle.price_rules.specs.laws.Adding.{paired}
-use Rattle.contract_price.specs.laws.Numbers.{few, row-built, row-divisible, row_of, row-ruled}
+use Rattle.contract_price.specs.laws.Numbers.{few, row-built, row_of, row-ruled}
 use borrow.Author.Rules.{rules}
 use Rattle.contract_price.proofs.answer_by_row.Statement.{statement}
 use Rattle.contract_price.proofs.answer_by_row.Tie as tie
@@ -42,12 +40,7 @@ step-by-requires : tie.Need-step-by-requires
 step-by-requires c κs = search rules
 
 rounded-requires : tie.Need-rounded-requires
-rounded-requires c κs =
-    let m = c.before in
-    let t = m.before in
-    let k = t.before.before in
-    let s = k.before.before.before in
-    row-divisible s.args.marks (paired s.args.lots.now s.args.values.now) (span_says s.args.span) s.args.c k.contract-by.result.twap s.requires.1 s.requires.0.small s.requires.2 (t.vwap-sum.ensures ∙ rw (row_is k)) m.mean-by-lots.ensures
+rounded-requires c κs = search rules
 
 -- the step is the contract's
 step : (c : tie.After-step-by) → let s = c.before.before.before.before.before.before.before in c.step_by.result ≡ step_of s.args.metal s.args.c

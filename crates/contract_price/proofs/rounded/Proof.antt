@@ -2,10 +2,10 @@
 use mathlib.Core.Path.{◌≡◌, ◌∙◌, sym, ap}
 use mir.Syntax.{w64}
 use mir.Val.{to_z, of_z}
-use Rattle.cents.specs.Close.{means, close_from}
+use Rattle.cents.specs.Round.{round}
+use Rattle.cents.specs.Close.{means, close_of}
 use Rattle.price_rules.specs.Closing.{closed, answered}
 use borrow.Author.Rules.{rules}
-use Rattle.contract_price.specs.laws.Numbers.{divisor-in}
 use Rattle.contract_price.proofs.rounded.Statement.{statement}
 use Rattle.contract_price.proofs.rounded.Tie as tie
 
@@ -13,7 +13,7 @@ enum-known-mean : tie.Need-enum-known-mean
 enum-known-mean c = search rules
 
 rounded-close-requires : tie.Need-rounded-close-requires
-rounded-close-requires c κs = search (divisor-in, rules)
+rounded-close-requires c κs = search rules
 
 enum-known-close : tie.Need-enum-known-close
 enum-known-close c = search rules
@@ -25,7 +25,7 @@ enum-told-2 : tie.Need-enum-told-2
 enum-told-2 c = search rules
 
 -- the sum as the machine reads it is the sum
-price : (c : tie.After-rounded-close) → let m = c.before.before.mean.given.0 in means c.rounded-close.result ≡ close_from m.1.0 m.1.1.0 c.before.before.before.before.args.step
+price : (c : tie.After-rounded-close) → let m = c.before.before.mean.given.0 in means c.rounded-close.result ≡ close_of (round m.1.0 m.1.1.0 c.before.before.before.before.args.step)
 price c =
     let m = c.before.before.mean.given.0 in
     let same : to_z w64 (of_z w64 m.1.0) ≡ m.1.0 = search rules in
@@ -34,16 +34,12 @@ price c =
 returns : tie.Need-returns
 returns c =
     let q = c.before.before.before in
-    let m = q.before.before.mean.given in
-    let r = c.before.close.given.0.1.0 in
-    let same : to_z w64 (of_z w64 r) ≡ r = search rules in
-    rw (same, m.1) (ap (closed m.0.0 q.before.before.before.before.args.lots m.0.1.1.0) (sym (ap means c.before.close.given.1) ∙ price q))
+    rw q.before.before.mean.given.1 (ap (closed q.before.before.mean.given.0.0 q.before.before.before.before.args.lots) (sym (ap means c.before.close.given.1) ∙ price q))
 
 returns-2 : tie.Need-returns-2
 returns-2 c =
     let q = c.before.before in
-    let m = q.before.before.mean.given in
-    rw m.1 (ap (closed m.0.0 q.before.before.before.before.args.lots m.0.1.1.0) (sym (ap means c.enum_told.given.1) ∙ price q))
+    rw q.before.before.mean.given.1 (ap (closed q.before.before.mean.given.0.0 q.before.before.before.before.args.lots) (sym (ap means c.enum_told.given.1) ∙ price q))
 
 returns-3 : tie.Need-returns-3
 returns-3 c = sym (ap (answered _ _) c.enum-told2.given.1)

@@ -4,7 +4,7 @@
 --     Lent                      what is lent to price a contract, within the sizes that keep every sum within 64 bits
 --     row_of, row-ruled         a row of the table as the code looks it up
 -- Assumes nothing.
-use Rattle.std.specs.Prelude.{ℕ, ◌-◌, ◌^◌, ◌≤◌, ◌<◌, ◌≡◌, Bool, ℤ, nat_abs, get_or}
+use Rattle.std.specs.Prelude.{ℕ, ◌-◌, ◌≤◌, ◌<◌, ◌≡◌, Bool, ℤ, nat_abs, get_or}
 use Rattle.std.proofs.Math.Path.{refl, sym, ap}
 use Rattle.std.proofs.Common.{◌∙◌, arith, leb-false, leb→le}
 use Rattle.std.proofs.Math.Bool.{true, false, cond}
@@ -14,18 +14,16 @@ use Rattle.market.specs.declared.Contract.{Contract}
 use Rattle.market.specs.Market.{minimum_lots, contracts, contract_by, contract_of, instruments, step_of, named}
 use Rattle.market.specs.laws.Table.{below}
 use Rattle.market.specs.laws.Rules.{Ruled, ruled}
-use Rattle.market.specs.laws.Rows.{window-length}
 use Rattle.trades.specs.declared.Total.{Total}
 use Rattle.trades.specs.laws.Trades.{AllSmall}
 use Rattle.twap.specs.declared.Summed.{Summed}
 use Rattle.twap.specs.Span.{Span, missing, sum, span_says}
-use Rattle.price_rules.specs.declared.Method.{Method}
 use Rattle.price_rules.specs.declared.Method.TheVariants.{Vwap}
 use Rattle.price_rules.specs.declared.Mean.{Mean}
-use Rattle.price_rules.specs.declared.Mean.TheVariants.{Of, Missing}
+use Rattle.price_rules.specs.declared.Mean.TheVariants.{Of}
 use Rattle.price_rules.specs.declared.Sum.{Sum}
 use Rattle.price_rules.specs.Closing.{Figures, twap_by, lots_of, Told, refused, answered, row_answer, Known, answer_by}
-use Rattle.price_rules.specs.laws.Adding.{Tallied, Bounded, paired, sum_by, by-method, sum-within, sum_is}
+use Rattle.price_rules.specs.laws.Adding.{Tallied, paired, sum_by, sum_is}
 
 -- ---- by numbers
 
@@ -102,35 +100,17 @@ Summable (sum z) = nat_abs z ≤ 29999999700000
 pub summed-small : {span : Span} {z : ℤ} → Summable span → sum z ≡ span → nat_abs z ≤ 29999999700000
 summed-small {span} h e = rw (← e) at h
 
--- a contract has at most four VWAP instruments
-pub few : (c : ℕ) → c < 6 → (contract_of c).past - (contract_of c).first ≤ 4
-unfolding contract_of
-few c h = leb→le _ _ (below (λ c. leb ((contract_of c).past - (contract_of c).first) 4) 6 c tt h)
-
--- a divisor within the size that rounding asks for
-abbrev pub Divisible : Mean → Type 0
-Divisible (Of method n d) = d ≤ 2 ^ 36
-Divisible Missing = Unit {0}
-
-pub divisor-in : {mean : Mean} {method : Method} {n : ℤ} {d : ℕ} → Divisible mean → mean ≡ Of method n d → d ≤ 2 ^ 36
-divisor-in {mean} h e = rw e at h
-
-mean-divisible : (marks : ℕ) (closes : List ℕ) (i : ℕ) (t : Sum) (span : Span) → t.lots ≤ 2 ^ 36 → Divisible (mean_by marks closes i t span)
-mean-divisible marks closes i t span h = by-method Divisible marks closes i t.sum t.lots span (λ e. h) (λ s q. omega (arith, window-length)) tt
-
--- that of a contract is: its lots are those of four instruments at most
-pub row-divisible : (marks : ℕ) {closes : List ℕ} (totals : List Total) (span : Span) (c i : ℕ) → Bounded closes → AllSmall 1048576 totals → c < 6 → {t : Sum} {m : Mean} → t ≡ sum_over marks closes totals c → m ≡ mean_by marks closes i t span → Divisible m
-row-divisible marks {closes} totals span c i b small h e g =
-    let r = contract_of c in
-    let lots = (sum-within marks b totals small r.first (r.past - r.first)).lots in
-    rw (g, e) (mean-divisible marks closes i (sum_over marks closes totals c) span (omega (arith, few c h)))
-
 -- what is lent to price a contract: the rows of the tables, the totals of the trades, and the sum over the window
 pub record Lent (table spreads : List (List ℕ)) (lots : List ℕ) (values : List ℤ) (span : Summed) : Type 0 where
   pub rows : table ≡ contracts
   pub legs : spreads ≡ instruments
   pub small : AllSmall 1048576 (paired lots values)
   pub summable : Summable (span_says span)
+
+-- a contract has at most four VWAP instruments
+pub few : (c : ℕ) → c < 6 → (contract_of c).past - (contract_of c).first ≤ 4
+unfolding contract_of
+few c h = leb→le _ _ (below (λ c. leb ((contract_of c).past - (contract_of c).first) 4) 6 c tt h)
 
 -- a row of the table as the code looks it up, and its rules
 module _ (c : ℕ) {row : Contract} {table : List (List ℕ)} (e : row ≡ contract_by (get_or table c [])) (t : table ≡ contracts) where

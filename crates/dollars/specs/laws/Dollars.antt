@@ -4,14 +4,14 @@ use Rattle.std.proofs.Common.{sym, ap, ◌∙◌, div-add-mod', mod-lt, mod-eq_o
 use Rattle.std.proofs.Math.Nat.{div-div-eq-div-mul, mul-add-div_right, mul-add-mod_self_right, div-eq_of_lt}
 use Rattle.std.proofs.Math.Dec.{eqb-suc-zero}
 use Rattle.std.proofs.Math.Seq.{take-append_seam, drop-append_seam}
-use Rattle.text.specs.Decimal.{digit, decimal, sign_of}
+use Rattle.text.specs.Decimal.{digit, decimal}
 use Rattle.numerals.specs.declared.Number.TheVariants as N
 use Rattle.numerals.specs.Numerals.{is_digit, number, given}
 use Rattle.numerals.specs.laws.Lacks.{lacks, lacks-join}
-use Rattle.numerals.specs.laws.Numerals.{clash, Digit, digit-is, writes-read, reads-written, number-first, other_byte, decimal-lacks}
+use Rattle.numerals.specs.laws.Numerals.{clash, Digit, digit-is, writes-read, reads-written, number-first, number-lacks}
 use Rattle.field.specs.declared.Price.{Price}
 use Rattle.dollars.specs.declared.Money.TheVariants.{Cents, Malformed}
-use Rattle.dollars.specs.Dollars.{pointed, cents, priced, upward, downward, price, amount, price_text}
+use Rattle.dollars.specs.Dollars.{pointed, cents, priced, upward, downward, price, amount, sign_of, price_text}
 use Rattle.dollars.specs.laws.Cases.{given_is, pointed-is, amount-is}
 
 -- ---- three digits off a number
@@ -159,13 +159,16 @@ pub record Odd (c : ℕ) : Type 0 where
   pub point : eqb 46 c ≡ false
   pub minus : eqb 45 c ≡ false
 
-lacks-amount : (c n : ℕ) → Odd c → lacks c (amount n) ≡ true
-lacks-amount c n o =
-    let ten : 0 < 10 = omega arith in
-    lacks-join c (decimal (n / 100)) (46 ∷ digit (n / 10 % 10) ∷ digit (n % 10) ∷ []) (decimal-lacks c 20 (n / 100) o.digits)
-    (simp (o.point, ne_eqb (digit (n / 10 % 10)) c (other_byte c (n / 10 % 10) o.digits (mod-lt (n / 10) ten)), ne_eqb (digit (n % 10)) c (other_byte c (n % 10) o.digits (mod-lt n ten))))
+apart : (c d : ℕ) → is_digit c ≡ false → d < 10 → digit d ≡ c → ⊥
+apart c d h l e = clash (cc (digit-is d l))
 
-pub price-lacks : (c : ℕ) (z : ℤ) → Odd c → lacks c (price_text z) ≡ true
+lacks-amount : (c n : ℕ) → Odd c → n < 1000000000 → lacks c (amount n) ≡ true
+lacks-amount c n o h =
+    let ten : 0 < 10 = omega arith in
+    lacks-join c (decimal (n / 100)) (46 ∷ digit (n / 10 % 10) ∷ digit (n % 10) ∷ []) (number-lacks c 10000000 (n / 100) (decimal (n / 100)) o.digits (dollars-of n h))
+    (simp (o.point, ne_eqb (digit (n / 10 % 10)) c (apart c (n / 10 % 10) o.digits (mod-lt (n / 10) ten)), ne_eqb (digit (n % 10)) c (apart c (n % 10) o.digits (mod-lt n ten))))
+
+pub price-lacks : (c : ℕ) (z : ℤ) → Odd c → nat_abs z < 1000000000 → lacks c (price_text z) ≡ true
 unfolding sign_of
-price-lacks c (pos n) o = lacks-amount c n o
-price-lacks c (negsuc n) o = simp o.minus (lacks-amount c (suc n) o)
+price-lacks c (pos n) o h = lacks-amount c n o h
+price-lacks c (negsuc n) o h = simp o.minus (lacks-amount c (suc n) o h)

@@ -7,7 +7,7 @@ use Rattle.std.proofs.Math.Path.{ap}
 use mathlib.Core.List.{List, [], ◌∷◌, ◌++◌}
 use native.Mathlib.Omega.{arith}
 use Rattle.std.proofs.Math.ListN.{drop, length-drop}
-use Rattle.numerals.specs.laws.Lacks.{lacks, lacks-join, Plain}
+use Rattle.numerals.specs.laws.Lacks.{lacks, lacks-join}
 use Rattle.numerals.specs.laws.Numerals.{clash}
 use Rattle.items.specs.Items.{first, rest, pieces, joined_to, joined, end_of}
 
@@ -48,7 +48,11 @@ cut_at stop (b ∷ i) t h = by-test (eqb b stop) refl h (λ g. cut_at stop i t g
     by-test true e g k = clash cc
     by-test false e g k = let c = k g in record { head = simp (e, c.head); tail = simp (e, c.tail) }
 
--- joined pieces are cut where they were joined
+-- each piece lacks the stop
+abbrev pub Plain : ℕ → List (List ℕ) → Type 0
+Plain stop [] = Unit {0}
+Plain stop (i ∷ is) = (lacks stop i ≡ true) × Plain stop is
+
 cut-join : (stop : ℕ) (i : List ℕ) (is : List (List ℕ)) → lacks stop i ≡ true → Plain stop is → pieces stop (joined_to stop i is) ≡ i ∷ is
 cut-join stop i [] h p = let c = cut-end stop i h in simp (c.head, c.tail)
 cut-join stop i (j ∷ is) h p =

@@ -2,7 +2,6 @@
 --     lift-right        lifted prices that stay in their range leave a field right
 --     figures-lifted    the figures of a lifted sheet are lifted
 --     shifts            the law;  shifts-all    where neither sheet has a 14, every contract
---     six-of            six answers are those of an accepted sheet
 -- Assumes nothing.
 use Rattle.std.specs.Prelude.{ℕ, suc, ◌+◌, ◌*◌, ◌≤◌, ◌<◌, ◌≡◌, Bool, cond, ℤ, ◌+ℤ◌, ◌*ℤ◌}
 use Rattle.std.proofs.Math.Path.{refl, ap}
@@ -17,22 +16,22 @@ use Rattle.field.specs.declared.Price.{Price}
 use Rattle.field.specs.declared.Before.{Before}
 use Rattle.field.specs.declared.Field.{Field}
 use Rattle.field.specs.Judging.{both, third_of, pick, if_present, if_absent, cents_within, price_right, has_bid, has_offer, side_prices_right}
-use Rattle.field.specs.laws.Field.{both_true, both-holds, clash}
+use Rattle.field.specs.laws.Field.{both_true, both-holds}
 use Rattle.field.specs.laws.Sound.{SoundQuote}
 use Rattle.market.specs.Market.{start_of, step_of, 3M}
 use Rattle.sheet.specs.declared.Day.{Day}
 use Rattle.sheet.specs.Fields.{fields_of, encode, Each}
-use Rattle.sheet.specs.Judgement.{Verdict, accepts, refuses-at, judge_sheet}
+use Rattle.sheet.specs.Judgement.{accepts, judge_sheet}
 use Rattle.sheet.specs.laws.Accepted.{accepted-header, accepted-right}
 use Rattle.trades.specs.Trades.{Deal, trades_in, lots_in, value_in}
+use Rattle.trades.specs.laws.Trades.{numbered}
 use Rattle.trades.specs.laws.Rowed.{accepted-step}
 use Rattle.indicator.specs.Indicator.{twap_sum, has_reference}
 use Rattle.field.specs.Repriced.{shift_price, shift_sides}
 use Rattle.indicator.specs.laws.Moved.{shifted-reference, shifted}
 use Rattle.twap.specs.Span.{missing, sum, span_of}
-use Rattle.price_rules.specs.Closing.{Figures, figures_of, Told, refused, answer_of, closings_of, six, answers_by, answers_of}
-use Rattle.six_answers.specs.laws.State.{closings-at}
-use Rattle.laws.specs.Demand.{steps, lifted_field, lifted, Liftable, Moved, InRange, answer_at, Moves, Lifts, ShiftLaw, figures_in}
+use Rattle.price_rules.specs.Closing.{Figures, figures_of, refused, answer_of, closings_of, six, answers_by, answers_of}
+use Rattle.laws.specs.Demand.{steps, lifted_field, lifted, Liftable, Moved, InRange, answer_at, Moves, Lifts, ShiftLaw}
 use Rattle.laws.specs.laws.Kept.{Right, right-changed, changedFields, changed-accepted}
 use Rattle.laws.specs.laws.Figures.{repriced_deal, trades-changed, trades-others, span-others, lots-kept, le-true}
 use Rattle.laws.specs.laws.Shift.{LiftedSpan, none, some, Lifted, shift}
@@ -122,17 +121,10 @@ pub answers-are : (s : List ℕ) (day : Day) → judge_sheet s ≡ accepts day �
 unfolding answers_of
 answers-are s day a = ap (answers_by (fields_of s)) a
 
--- six answers are those of an accepted sheet
-pub six-of : (s : List ℕ) (day : Day) (answers : List Told) → answers_of s ≡ six day answers → (judge_sheet s ≡ accepts day) × (closings_of (figures_in s day) ≡ answers)
-unfolding answers_of
-six-of s day answers e = by (judge_sheet s) refl e
-  where
-    by : (v : Verdict) → judge_sheet s ≡ v → answers_by (fields_of s) v ≡ six day answers → (judge_sheet s ≡ accepts day) × (closings_of (figures_in s day) ≡ answers)
-    by (accepts told) k h =
-        let same : told ≡ day = cc in
-        let are : closings_of (figures_in s told) ≡ answers = cc in
-        (k ∙ ap accepts same, ap (λ (d : Day). closings_of (figures_in s d)) (sym same) ∙ are)
-    by (refuses-at number at) k h = clash cc
+-- the answer of a contract among the six
+pub answer_at_lem : (d : Figures) (c : ℕ) → c < 6 → answer_at (closings_of d) c ≡ answer_of d c
+unfolding closings_of
+answer_at_lem d c h = numbered (answer_of d) 0 6 c (refused 15 0) h ∙ ap (answer_of d) (omega arith)
 
 -- by figures: each contract up to which neither has a 14
 figures-move : (metal marks third : ℕ) (fs : List Field) (k : ℤ) → 0 < step_of metal 3M →
@@ -145,9 +137,9 @@ figures-move metal marks third fs k above c h f =
     let d = figures_of metal marks third fs in
     let δ = pos (step_of metal 3M) *ℤ k in
     let d' = figures_of metal marks third (map (lifted_field δ) fs) in
-    rw (closings-at d c h, closings-at d' c h)
+    rw (answer_at_lem d c h, answer_at_lem d' c h)
     (shift k d d' above (figures-lifted δ metal marks third fs) c h
-    (λ j l. (subst InRange (closings-at d j (omega arith)) (f j l).0, subst InRange (closings-at d' j (omega arith)) (f j l).1)))
+    (λ j l. (subst InRange (answer_at_lem d j (omega arith)) (f j l).0, subst InRange (answer_at_lem d' j (omega arith)) (f j l).1)))
 
 -- for every accepted sheet, and every whole number of steps that leaves its 3M prices in their range
 pub shifts : ShiftLaw

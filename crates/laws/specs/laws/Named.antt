@@ -10,13 +10,14 @@ use Rattle.field.specs.Judging.{third_of, allowed}
 use Rattle.field.specs.Repriced.{concerns}
 use Rattle.field.specs.laws.Field.{clash}
 use Rattle.market.specs.Market.{3M, named, barred}
+use Rattle.sheet.specs.declared.Day.{Day}
 use Rattle.sheet.specs.Fields.{fields_of, encode, Each}
+use Rattle.sheet.specs.Judgement.{Verdict, accepts, refuses-at, judge_sheet}
 use Rattle.sheet.specs.laws.Accepted.{Let, accepted-let}
-use Rattle.price_rules.specs.Closing.{Figures, figures_of, refused, known_at, answer_of}
-use Rattle.six_answers.specs.laws.State.{closings-at}
-use Rattle.laws.specs.Demand.{turned_marks, remarked, turned_field, turned, BarredLaw, NamedLaw, figures_in}
+use Rattle.price_rules.specs.Closing.{Figures, figures_of, refused, known_at, answer_of, closings_of, six, answers_by, answers_of}
+use Rattle.laws.specs.Demand.{answer_at, turned_marks, remarked, turned_field, turned, BarredLaw, NamedLaw}
 use Rattle.laws.specs.laws.Shift.{three-unnamed}
-use Rattle.laws.specs.laws.Lift.{six-of}
+use Rattle.laws.specs.laws.Lift.{answer_at_lem}
 
 -- ---- the contract that 3M is
 
@@ -26,7 +27,7 @@ unfolding known_at
 three-known d zero = refl
 three-known d (suc c) = rw (ne_eqb (suc c) 3M (λ e. omega arith)) (three-known d c)
 
-pub named-answer : (d : Figures) (c : ℕ) → named d.third c ≡ true → (answer_of d c ≡ answer_of d 3M) ⊎ (answer_of d c ≡ refused 15 0)
+named-answer : (d : Figures) (c : ℕ) → named d.third c ≡ true → (answer_of d c ≡ answer_of d 3M) ⊎ (answer_of d c ≡ refused 15 0)
 named-answer d zero e = let none = three-unnamed d.third in clash cc
 named-answer d (suc c) e = by (known_at d (suc c)).stopped refl
   where
@@ -34,12 +35,25 @@ named-answer d (suc c) e = by (known_at d (suc c)).stopped refl
     by true h = inr (rw h refl)
     by false h = inl (rw (h, e) (three-known d c))
 
--- among the six of a sheet
-pub named-agrees : NamedLaw
+-- among the six of an accepted sheet
+named-six : (s : List ℕ) (day : Day) (c : ℕ) → c < 6 → named (third_of day.form) c ≡ true →
+    let answers = closings_of (figures_of day.metal day.marks (third_of day.form) (fields_of s)) in
+    (answer_at answers c ≡ answer_at answers 3M) ⊎ (answer_at answers c ≡ refused 15 0)
 unfolding figures_of
-named-agrees s day answers c low e n =
-    let d = figures_in s day in
-    rw (← (six-of s day answers e).1, closings-at d c low, closings-at d 3M (omega arith)) (named-answer d c n)
+named-six s day c low n =
+    let d = figures_of day.metal day.marks (third_of day.form) (fields_of s) in
+    rw (answer_at_lem d c low, answer_at_lem d 3M (omega arith)) (named-answer d c n)
+
+pub named-agrees : NamedLaw
+unfolding answers_of
+named-agrees s day answers c low e n = by (judge_sheet s) e
+  where
+    by : (v : Verdict) → answers_by (fields_of s) v ≡ six day answers → (answer_at answers c ≡ answer_at answers 3M) ⊎ (answer_at answers c ≡ refused 15 0)
+    by (accepts told) h =
+        let same : told ≡ day = cc in
+        let is : closings_of (figures_of told.metal told.marks (third_of told.form) (fields_of s)) ≡ answers = cc in
+        rw (← is) (named-six s told c low (rw same n))
+    by (refuses-at number at) h = clash cc
 
 -- ---- a spread that is barred
 

@@ -18,9 +18,9 @@ use Rattle.market.specs.Market.{minimum_lots, leg_of, contract_of, metal_of, ste
 use Rattle.market.specs.laws.Rows.{window-length}
 use Rattle.market.specs.laws.Rules.{Earlier, Ruled, ruled}
 use Rattle.cents.specs.laws.Whole.{up, down, is, is-+, is--, is-*, is_pos, show-≡, *ℤ-+ℤ}
-use Rattle.cents.specs.Round.{round, remainder}
-use Rattle.cents.specs.laws.Round.{round-shift, remainder-shift}
-use Rattle.cents.specs.Close.{close_of, close_from}
+use Rattle.cents.specs.Round.{round}
+use Rattle.cents.specs.laws.Round.{round-shift}
+use Rattle.cents.specs.Close.{close_of}
 use Rattle.trades.specs.Trades.{lots_in, value_in}
 use Rattle.twap.specs.Span.{Span, missing, sum}
 use Rattle.price_rules.specs.declared.Method.{Method}
@@ -162,24 +162,19 @@ record Divides (u : ℕ) (δ : ℤ) : Type 0 where
   quotient : ℤ
   product : δ ≡ pos u *ℤ quotient
 
-closed-moved : {δ : ℤ} (method : Method) (lots divisor : ℕ) (z z' r r' : ℤ) → z' ≡ z +ℤ δ → r' ≡ r → InRange (closed method lots divisor (close_of z r)) → InRange (closed method lots divisor (close_of z' r'))
-    → Moved δ (closed method lots divisor (close_of z r)) (closed method lots divisor (close_of z' r'))
-closed-moved {δ} method lots divisor z z' r r' e f a b = by (view z r) (view z' r')
+closed-moved : {δ : ℤ} (method : Method) (lots : ℕ) (z z' : ℤ) → z' ≡ z +ℤ δ → InRange (closed method lots (close_of z)) → InRange (closed method lots (close_of z')) → Moved δ (closed method lots (close_of z)) (closed method lots (close_of z'))
+closed-moved {δ} method lots z z' e a b = by (view z) (view z')
   where
-    by : View z r → View z' r' → Moved δ (closed method lots divisor (close_of z r)) (closed method lots divisor (close_of z' r'))
-    by (price m p h q) (price m' p' h' q') = let s : pos m' ≡ pos m +ℤ δ = cc in rw (q, q', f) (lifts s)
+    by : View z → View z' → Moved δ (closed method lots (close_of z)) (closed method lots (close_of z'))
+    by (price m p h q) (price m' p' h' q') = let s : pos m' ≡ pos m +ℤ δ = cc in rw (q, q') (lifts s)
     by (price m p h q) (no-price q') = absurd ((rw q' at b) refl)
     by (no-price q) w = absurd ((rw q at a) refl)
 
 answered-moved : {δ : ℤ} {m m' : Mean} (u lots : ℕ) → Divides u δ → MovedMean δ m m' → InRange (answered u lots m) → InRange (answered u lots m') → Moved δ (answered u lots m) (answered u lots m')
-unfolding close_from
-answered-moved {δ} u lots v (mean {method} {n} {n'} {w} h e) a b = closed-moved method lots w (round n w u) (round n' w u) _ _ same kept a b
+answered-moved {δ} u lots v (mean {method} {n} {n'} {w} h e) a b = closed-moved method lots (round n w u) (round n' w u) same a b
   where
     same : round n' w u ≡ round n w u +ℤ δ
     same = rw (e, v.product) (round-shift n w u h v.positive v.quotient)
-
-    kept : remainder n' w (round n' w u) ≡ remainder n w (round n w u)
-    kept = ap (remainder n' w) same ∙ ap (λ (z : ℤ). remainder z w (round n w u +ℤ δ)) e ∙ remainder-shift n w (round n w u) δ
 answered-moved u lots v no-mean a b = stays
 
 -- a contract's step divides what 3M's divides: it is 3M's, or 1 cent

@@ -11,8 +11,8 @@ use Rattle.text.specs.Ascii.{ascii}
 use Rattle.text.specs.Decimal.{decimal}
 use Rattle.numerals.specs.declared.Number.TheVariants as N
 use Rattle.numerals.specs.Numerals.{is_digit, number}
-use Rattle.numerals.specs.laws.Lacks.{lacks, Plain}
-use Rattle.numerals.specs.laws.Numerals.{clash, writes-read, reads-written, decimal-lacks}
+use Rattle.numerals.specs.laws.Lacks.{lacks}
+use Rattle.numerals.specs.laws.Numerals.{clash, writes-read, reads-written, number-lacks}
 use Rattle.field.specs.declared.Price.{Price}
 use Rattle.field.specs.declared.Form.{Form}
 use Rattle.field.specs.declared.Form.TheVariants.{Short, Long}
@@ -30,7 +30,7 @@ use Rattle.dollars.specs.laws.Dollars.{Odd, price-written, price-read, price-lac
 use Rattle.names.specs.Names.{same, metal_in, instrument_in, metal_name, instrument_name}
 use Rattle.names.specs.laws.Finding.{same-is, instrument-known, instrument-found, metal-known, metal-found}
 use Rattle.items.specs.Items.{items, joined}
-use Rattle.items.specs.laws.Items.{items-join, join-items, joined-lacks}
+use Rattle.items.specs.laws.Items.{Plain, items-join, join-items, joined-lacks}
 use Rattle.line_reader.specs.declared.Side.{Side}
 use Rattle.line_reader.specs.declared.Side.TheVariants as S
 use Rattle.line_reader.specs.declared.Line.{Line}
@@ -42,6 +42,9 @@ use Rattle.line_reader.specs.laws.Cases.{trade-all, quote-all, metal-all, long-a
 
 told : (most n : ℕ) → n ≤ most → n < 10 ^ 19 → number most (decimal n) ≡ N.Value n
 told most n l h = reads-written most n (omega arith) l
+
+plain : (c n : ℕ) → is_digit c ≡ false → n < 10 ^ 19 → lacks c (decimal n) ≡ true
+plain c n d h = number-lacks c n n (decimal n) d (told n n (omega arith) h)
 
 pub bit_of : Bool → ℕ
 bit_of true = 1
@@ -126,28 +129,23 @@ unfolding is_digit
 free-10 = record { odd = record { digits = refl; point = refl; minus = refl }; words = (refl, refl, refl, refl, refl); instruments = λ i h. (instrument-known i h).one_line; metals = λ m l h. (metal-known m l h).one_line }
 
 module _ (c : ℕ) (w : Free c) where
-  free-number : (n : ℕ) → lacks c (decimal n) ≡ true
-  free-number n = decimal-lacks c 20 n w.odd.digits
-
-  free-price : (p : Price) → lacks c (price_text p.cents) ≡ true
-  free-price p = price-lacks c p.cents w.odd
-
-  free-side : (present : Bool) (p : Price) → lacks c (side_text present p) ≡ true
+  free-side : (present : Bool) (p : Price) → nat_abs p.cents < 1000000000 → lacks c (side_text present p) ≡ true
   unfolding side_text
-  free-side true p = free-price p
-  free-side false p = w.words.4
+  free-side true p h = price-lacks c p.cents w.odd h
+  free-side false p h = w.words.4
 
-  free-form : (form : Form) → Plain c (form_items form)
-  free-form Short = tt
-  free-form (Long third) = (free-number third, tt)
+  free-form : (form : Form) → third_of form ≤ 255 → Plain c (form_items form)
+  free-form Short h = tt
+  free-form (Long third) h = (plain c third w.odd.digits (omega arith), tt)
 
   free-items : (f : Field) → Legible f → Plain c (items_of f)
   unfolding items_of
-  free-items (F.Header metal marks form) h = (w.words.0, (w.metals metal h.0 h.1, (free-number marks, free-form form)))
-  free-items (F.PreviousClose instrument p) h = (w.words.1, (w.instruments instrument h.0, (free-price p, tt)))
-  free-items (F.Trade time instrument p lots) h = (free-number time, (w.instruments instrument h.1, (w.words.2, (free-price p, (free-number lots, tt)))))
+  free-items (F.Header metal marks form) h = (w.words.0, (w.metals metal h.0 h.1, (plain c marks w.odd.digits (omega (arith, h.2)), free-form form h.3)))
+  free-items (F.PreviousClose instrument p) h = (w.words.1, (w.instruments instrument h.0, (price-lacks c p.cents w.odd h.1, tt)))
+  free-items (F.Trade time instrument p lots) h =
+      (plain c time w.odd.digits (omega (arith, h.0)), (w.instruments instrument h.1, (w.words.2, (price-lacks c p.cents w.odd h.2, (plain c lots w.odd.digits (omega (arith, h.3)), tt)))))
   free-items (F.Quote time instrument sides bid offer) h =
-      (free-number time, (w.instruments instrument h.1, (w.words.3, (free-side (has_bid sides) bid, (free-side (has_offer sides) offer, tt)))))
+      (plain c time w.odd.digits (omega (arith, h.0)), (w.instruments instrument h.1, (w.words.3, (free-side (has_bid sides) bid h.3.0, (free-side (has_offer sides) offer h.4.0, tt)))))
   free-items (F.End count) h = tt
 
 -- no line holds a line feed

@@ -3,7 +3,7 @@ use mathlib.Core.Path.{◌≡◌}
 use mir.Syntax.{w32}
 use mir.Val.{to_z, of_z, SFits}
 use borrow.Author.Rules.{rules}
-use Rattle.text.specs.laws.Putting.{then, same_bytes, placed}
+use Rattle.text.specs.laws.Putting.{then, same_bytes}
 use Rattle.line_writer.specs.laws.Pieces.{written-up, written-down}
 use Rattle.line_writer.proofs.put_price.Statement.{statement}
 use Rattle.line_writer.proofs.put_price.Tie as tie
@@ -20,7 +20,7 @@ returns-2 c =
     let z = c.before.before.before.before.before.before.before.before.before.before.before.before.before.args.price.cents in
     let same : to_z w32 (of_z w32 z) ≡ z = search rules in
     let f : SFits w32 z = search rules in
-    same_bytes (written-down z _ f (rw same at c.before.before.before.before.before.before.before.before.before.before.bits_of.ensures) c.before.before.before.before.before.before.before.before.before.if1.false) (then (placed c.before.before.before.before.before.before.put-piece.ensures) c.before.before.put-amount2.ensures)
+    same_bytes (written-down z _ f (rw same at c.before.before.before.before.before.before.before.before.before.before.bits_of.ensures) c.before.before.before.before.before.before.before.before.before.if1.false) (then c.before.before.before.before.before.before.put.ensures c.before.before.put-amount2.ensures)
 
 pub put-price-spec : {M : Type 1} → statement M
 put-price-spec =

@@ -1,6 +1,6 @@
 -- `line_writer::put_quote` meets its contract. Assumes nothing.
 use borrow.Author.Rules.{rules}
-use Rattle.text.specs.laws.Putting.{then, same_bytes, placed}
+use Rattle.text.specs.laws.Putting.{then, same_bytes}
 use Rattle.line_reader.specs.laws.Pieces.{quote-line}
 use Rattle.tape.specs.Tape.{line_text}
 use Rattle.line_writer.proofs.put_quote.Statement.{statement}
@@ -9,7 +9,7 @@ use Rattle.line_writer.proofs.put_quote.Tie as tie
 returns : tie.Need-returns
 unfolding line_text
 returns c =
-    let a = c.before.before.before.before.before.before.before.before.before.before.before.before.before.before.before.before.before.before.before.before.before.before.before.before.before.before.before.before.args in same_bytes (quote-line a.time a.instrument a.sides a.bid a.offer) (then c.before.before.before.before.before.before.before.before.before.before.before.before.before.before.before.before.before.before.before.before.before.before.before.before.before.put-stamp.ensures (then (placed c.before.before.before.before.before.before.before.before.before.before.before.before.before.before.before.before.before.before.before.before.put-piece.ensures) (then c.before.before.before.before.before.before.before.before.before.before.before.before.before.before.before.before.put-side.ensures (then (placed c.before.before.before.before.before.before.before.before.before.before.before.put-piece2.ensures) (then c.before.before.before.before.before.before.before.put-side2.ensures (placed c.before.before.put-piece3.ensures))))))
+    let a = c.before.before.before.before.before.before.before.before.before.before.before.before.before.before.before.before.before.before.before.before.before.before.before.before.before.before.before.before.args in same_bytes (quote-line a.time a.instrument a.sides a.bid a.offer) (then c.before.before.before.before.before.before.before.before.before.before.before.before.before.before.before.before.before.before.before.before.before.before.before.before.before.put-stamp.ensures (then c.before.before.before.before.before.before.before.before.before.before.before.before.before.before.before.before.before.before.before.before.put.ensures (then c.before.before.before.before.before.before.before.before.before.before.before.before.before.before.before.before.put-side.ensures (then c.before.before.before.before.before.before.before.before.before.before.before.put2.ensures (then c.before.before.before.before.before.before.before.put-side2.ensures c.before.before.put3.ensures)))))
 
 pub put-quote-spec : {M : Type 1} → statement M
 put-quote-spec =

@@ -3,7 +3,7 @@ use Rattle.std.specs.Prelude.{ℕ, suc, ◌+◌, ◌-◌, ◌≤◌, ◌<◌, Bo
 use Rattle.std.proofs.Common.{sym, ap, subst, arith, SFits}
 use Rattle.std.specs.Int.{w32}
 use Rattle.text.specs.Ascii.{ascii}
-use Rattle.text.specs.Decimal.{decimal, sign_of}
+use Rattle.text.specs.Decimal.{decimal}
 use Rattle.text.specs.Over.{over}
 use Rattle.text.specs.laws.Putting.{Puts, put-none}
 use Rattle.wire.specs.Big.{bits}
@@ -12,7 +12,7 @@ use Rattle.field.specs.declared.Form.{Form}
 use Rattle.field.specs.declared.Form.TheVariants.{Short, Long}
 use Rattle.field.specs.declared.Field.{Field}
 use Rattle.field.specs.declared.Field.TheVariants as F
-use Rattle.dollars.specs.Dollars.{amount, price_text}
+use Rattle.dollars.specs.Dollars.{amount, sign_of, price_text}
 use Rattle.line_reader.specs.Lines.{side_text}
 use Rattle.line_reader.specs.laws.Pieces.{form_text}
 use Rattle.tape.specs.Tape.{line_text}

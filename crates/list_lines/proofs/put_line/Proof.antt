@@ -1,16 +1,13 @@
 -- `list_lines::put_line` meets its contract. Assumes nothing.
-use mathlib.Core.Path.{sym}
+use mathlib.Core.List.{append_assoc}
 use borrow.Author.Rules.{rules}
-use Rattle.text.specs.laws.Putting.{then, same_bytes, placed}
+use Rattle.text.specs.laws.Held.{⊕-⊕}
 use Rattle.list_lines.specs.laws.Listing.{answer-line}
 use Rattle.list_lines.proofs.put_line.Statement.{statement}
 use Rattle.list_lines.proofs.put_line.Tie as tie
 
 returns : tie.Need-returns
-returns c =
-    let space = c.before.before.before.before.before.before in
-    let contract = space.before.before.before.before.before in
-    same_bytes (sym (answer-line _ _ _)) (then (placed contract.put-contract.ensures) (then (placed space.put-piece.ensures) c.before.before.put-answer.ensures))
+returns c = simp (c.put-answer.ensures, c.before.put.ensures.holds, c.before.before.before.put-contract.ensures, ⊕-⊕, append_assoc, answer-line)
 
 pub put-line-spec : {M : Type 1} → statement M
 put-line-spec =
@@ -20,5 +17,4 @@ put-line-spec =
     (λ c. search rules)
     (λ c κs. search rules)
     (λ c κs. search rules)
-    (λ c. search rules)
     returns)

@@ -11,7 +11,7 @@ use Rattle.numerals.specs.laws.Numerals.{clash}
 use Rattle.market.specs.laws.Table.{both, both_left, both_right, below, from_one}
 use Rattle.names.specs.declared.Name.{Name}
 use Rattle.names.specs.Names.{metal_names, metal_name, instrument_names, instrument_name, same, number_of, metal_in, instrument_in, in_name}
-use Rattle.names.specs.laws.Names.{name-bytes, name-short, metal-length, instrument-length, is_true}
+use Rattle.names.specs.laws.Names.{name-bytes, name-short, metal-length, instrument-length}
 
 -- ---- the same bytes
 
@@ -158,6 +158,10 @@ pub record Known (number : Number) (name : List ℕ) (i : ℕ) : Type 0 where
 
 abbrev knows : Number → List ℕ → ℕ → Bool
 knows number name i = both (says number i) (both (lacks 44 name) (lacks 10 name))
+
+is_true : (b : Bool) → T b → b ≡ true
+is_true true t = refl
+is_true false t = absurd t
 
 is-value : (number : Number) (i : ℕ) → T (says number i) → number ≡ Value i
 is-value (Value n) i t = ap Value (eqb-true n i (is_true (eqb n i) t))

@@ -1,11 +1,8 @@
--- The numbers that have no name, how long a name can be, which bytes none has, and that every metal of an accepted sheet has one. Assumes nothing.
-use Prim.Native.Nat.{ℕ, zero, suc, ◌-◌, ◌≤◌}
-use Rattle.std.specs.Prelude.{◌≡◌, Bool, true, false, List, [], ◌∷◌, ◌++◌, T, leb, get_or, length, take, drop, replicate}
-use Rattle.std.proofs.Math.Path.{refl}
+-- The numbers that have no name, how long a name can be, and that every metal of an accepted sheet has one. Assumes nothing.
+use Rattle.std.specs.Prelude.{ℕ, zero, suc, ◌-◌, ◌≤◌, ◌≡◌, refl, Bool, true, List, [], ◌∷◌, ◌++◌, T, leb, get_or, length, take, drop, replicate}
 use Rattle.std.proofs.Common.{sym, ap, ◌∙◌, arith, leb→le}
 use Rattle.std.proofs.Math.ListN.{get_or-eq_default}
 use Rattle.std.proofs.Math.Seq.{take-length, take-append_seam}
-use Rattle.numerals.specs.laws.Lacks.{lacks}
 use Rattle.market.specs.laws.Table.{both, both_left, both_right, from_one}
 use Rattle.field.specs.Judging.{third_of, header_right}
 use Rattle.field.specs.laws.Sound.{metal-range}
@@ -56,24 +53,17 @@ name-bytes s name e = simp e (take-append_seam s (blank (9 - length s)))
 pub name-short : (s : List ℕ) (name : Name) → name ≡ in_name s → length s ≤ 9 → name.len ≤ 9
 name-short s name e h = simp e h
 
--- ---- a test that every name of a table passes, and no bytes, where there is no name
-
-abbrev every : (List ℕ → Bool) → List (List ℕ) → Bool
-every test [] = test []
-every test (name ∷ names) = both (test name) (every test names)
-
-in_table : (test : List ℕ → Bool) (names : List (List ℕ)) → T (every test names) → (i : ℕ) → T (test (get_or names i []))
-in_table test [] t i = t
-in_table test (name ∷ names) t zero = both_left (test name) (every test names) t
-in_table test (name ∷ names) t (suc i) = in_table test names (both_right (test name) (every test names) t) i
-
 -- ---- lengths
 
-abbrev short : ℕ → List ℕ → Bool
-short n name = leb (length name) n
+-- no name of a table is longer than n, and no bytes are none
+abbrev short : ℕ → List (List ℕ) → Bool
+short n [] = true
+short n (name ∷ names) = both (leb (length name) n) (short n names)
 
-name-length : (n : ℕ) (names : List (List ℕ)) → T (every (short n) names) → (i : ℕ) → length (get_or names i []) ≤ n
-name-length n names t i = leb→le (length (get_or names i [])) n (in_table (short n) names t i)
+name-length : (n : ℕ) (names : List (List ℕ)) → T (short n names) → (i : ℕ) → length (get_or names i []) ≤ n
+name-length n [] t i = omega arith
+name-length n (name ∷ names) t zero = leb→le (length name) n (both_left (leb (length name) n) (short n names) t)
+name-length n (name ∷ names) t (suc i) = name-length n names (both_right (leb (length name) n) (short n names) t) i
 
 pub metal-length : (m : ℕ) → length (metal_name m) ≤ 9
 unfolding metal_name
@@ -91,26 +81,6 @@ instrument-length i = name-length 7 instrument_names tt i
 pub method-length : (m : Method) → length (method_name m) ≤ 4
 method-length Vwap = omega arith
 method-length Twap = omega arith
-
--- ---- a byte that no name has
-
-pub is_true : (b : Bool) → T b → b ≡ true
-is_true true t = refl
-is_true false t = absurd t
-
-module _ (c : ℕ) where
-  pub metal-lacks : T (every (lacks c) metal_names) → (m : ℕ) → lacks c (metal_name m) ≡ true
-  unfolding metal_name
-  metal-lacks t zero = refl
-  metal-lacks t (suc m) = is_true (lacks c (get_or metal_names m [])) (in_table (lacks c) metal_names t m)
-
-  pub contract-lacks : T (every (lacks c) contract_names) → (k : ℕ) → lacks c (contract_name k) ≡ true
-  unfolding contract_name
-  contract-lacks t k = is_true (lacks c (get_or contract_names k [])) (in_table (lacks c) contract_names t k)
-
-  pub method-lacks : lacks c (method_name Vwap) ≡ true → lacks c (method_name Twap) ≡ true → (m : Method) → lacks c (method_name m) ≡ true
-  method-lacks v t Vwap = v
-  method-lacks v t Twap = t
 
 -- ---- every metal that is admitted has a name, so that no list stands under an empty line
 

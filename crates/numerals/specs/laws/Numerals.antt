@@ -2,17 +2,17 @@
 --     reads-written    number most (decimal n) is n, for n up to most
 --     writes-read      bytes that say a number below most are that number's decimal
 -- Assumes nothing.
-use Rattle.std.specs.Prelude.{ℕ, zero, suc, ◌+◌, ◌-◌, ◌*◌, ◌/◌, ◌%◌, ◌^◌, ◌≤◌, ◌<◌, Bool, true, false, ◌≡◌, refl, List, [], ◌∷◌, ◌++◌, ltb, eqb, ℤ, pos, negsuc, length, get_or}
+use Rattle.std.specs.Prelude.{ℕ, zero, suc, ◌+◌, ◌-◌, ◌*◌, ◌/◌, ◌%◌, ◌^◌, ◌≤◌, ◌<◌, Bool, true, false, ◌≡◌, refl, List, [], ◌∷◌, ◌++◌, ltb, eqb, length, get_or}
 use Rattle.std.proofs.Common.{sym, ap, ◌∙◌, append-nil, append_assoc, pow-suc, div-lt_iff_lt-mul, mod-lt, div-add-mod', mod-eq_of_lt, arith, length-append, lt-ltb, le-ltb, le-leb, ne_eqb, ltb-true}
 use Rattle.std.proofs.Math.Nat.{mul-add-div_right, mul-add-mod_self_right, div-eq_of_lt}
 use Rattle.std.proofs.Math.Decide.{dec_le, dec_lt}
 use Rattle.std.proofs.Math.ListN.{get_or-append}
 use Rattle.std.proofs.lemmas.Bool.{lt-leb, eqb-false, not-true}
-use Rattle.text.specs.Decimal.{digit, decimal_in, decimal, sign_of, signed}
+use Rattle.text.specs.Decimal.{digit, decimal_in, decimal}
 use Rattle.text.specs.laws.Decimal.{decimal-length}
 use Rattle.numerals.specs.declared.Number.TheVariants.{Value}
 use Rattle.numerals.specs.Numerals.{is_digit, risen, number_from, opens, number}
-use Rattle.numerals.specs.laws.Lacks.{lacks, lacks-join}
+use Rattle.numerals.specs.laws.Lacks.{lacks}
 use Rattle.numerals.specs.laws.Walk.{risen-most}
 
 pub clash : {A : Type 0} → ◌≡◌ {A = ℕ} 0 1 → A
@@ -262,26 +262,15 @@ begins most n (b ∷ s) o e = is_digit_lem b (begun most n 0 b s e).is
 pub number-first : (most n : ℕ) (s : List ℕ) → number most s ≡ Value n → Digit (get_or s 0 0)
 number-first most n s e = let o = opened most n s e in begins most n s o.0 o.1
 
--- ---- a decimal has no byte but digits, and a signed one a minus
-
-pub other_byte : (c d : ℕ) → is_digit c ≡ false → d < 10 → digit d ≡ c → ⊥
-other_byte c d h l e = clash (cc (digit-is d l))
-
-lacks-digit : (c d : ℕ) → is_digit c ≡ false → d < 10 → lacks c (digit d ∷ []) ≡ true
-lacks-digit c d h l = simp (ne_eqb (digit d) c (other_byte c d h l))
-
-pub decimal-lacks : (c k n : ℕ) → is_digit c ≡ false → lacks c (decimal_in k n) ≡ true
-unfolding decimal_in
-decimal-lacks c zero n h = refl
-decimal-lacks c (suc k) n h = by-test (decimal-lacks c k (n / 10) h) (dec_lt n 10)
+lacks-from : (c most a n : ℕ) (s : List ℕ) → is_digit c ≡ false → number_from most a s ≡ Value n → lacks c s ≡ true
+lacks-from c most a n [] h e = refl
+lacks-from c most a n (b ∷ s) h e =
+    let g = begun most n a b s e in
+    simp (ne_eqb b c (λ q. clash (apart b c q g.is h)), lacks-from c most (risen most a b) n s h g.rest)
   where
-    by-test : lacks c (decimal_in k (n / 10)) ≡ true → Dec (n < 10) → lacks c (decimal_in (suc k) n) ≡ true
-    by-test i (yes l) = rw (one k n l) (lacks-digit c n h l)
-    by-test i (no l) =
-        let d : n % 10 < 10 = mod-lt n (omega arith) in
-        rw (split k n (omega arith)) (lacks-join c (decimal_in k (n / 10)) (digit (n % 10) ∷ []) i (lacks-digit c (n % 10) h d))
+    apart : (b c : ℕ) → b ≡ c → is_digit b ≡ true → is_digit c ≡ false → ◌≡◌ {A = ℕ} 0 1
+    apart b c q x y = cc
 
-pub signed-lacks : (c : ℕ) (z : ℤ) → is_digit c ≡ false → eqb 45 c ≡ false → lacks c (signed z) ≡ true
-unfolding sign_of
-signed-lacks c (pos n) h m = decimal-lacks c 20 n h
-signed-lacks c (negsuc n) h m = simp m (decimal-lacks c 20 (suc n) h)
+-- no byte but a digit
+pub number-lacks : (c most n : ℕ) (s : List ℕ) → is_digit c ≡ false → number most s ≡ Value n → lacks c s ≡ true
+number-lacks c most n s h e = lacks-from c most 0 n s h (opened most n s e).1

@@ -1,24 +1,19 @@
 -- What the code adds up: the totals of the instruments, each applied to the other leg's close as often as it has lots; and that it is the sum
 -- of lots times implied price, trade by trade.
 --     sum_by      the code's sum;  sum_is    it is the one of RULES 5
---     by-method  a mean is a VWAP, a TWAP or missing
---     Bounded, Within, sum-within    the sizes that keep every sum within 64 bits
+--     Priceable, Bounded, Within     the sizes that keep every sum within 64 bits
 -- Assumes nothing.
-use Rattle.std.specs.Prelude.{ℕ, zero, suc, ◌+◌, ◌-◌, ◌*◌, ◌≤◌, ◌<◌, ◌≡◌, refl, Bool, true, false, cond, List, [], ◌∷◌, leb, ℤ, pos, nat_abs, ◌+ℤ◌, ◌*ℤ◌, get_or}
-use Rattle.std.proofs.Common.{sym, ap, ◌∙◌, add-mul, mul-zero, mul-add, mul-le-mul, add-one, arith, leb-true}
+use Rattle.std.specs.Prelude.{ℕ, zero, suc, ◌+◌, ◌-◌, ◌*◌, ◌≤◌, ◌<◌, ◌≡◌, refl, Bool, true, false, List, [], ◌∷◌, ℤ, pos, nat_abs, ◌+ℤ◌, ◌*ℤ◌, get_or}
+use Rattle.std.proofs.Common.{sym, ap, ◌∙◌, add-mul, mul-zero, mul-add, mul-le-mul, add-one, arith}
 use Rattle.market.specs.declared.Leg.{Leg}
 use Rattle.market.specs.declared.Leg.TheVariants.{Outright, Over, Under}
-use Rattle.market.specs.Market.{minimum_lots, leg_of, marked, window_length}
+use Rattle.market.specs.Market.{leg_of, marked}
 use Rattle.cents.specs.laws.Whole.{up, down, is, is-+, is--, is-*, is_pos, show-≡, size-+, size--}
 use Rattle.trades.specs.declared.Total.{Total}
 use Rattle.trades.specs.Trades.{Deal, lots_in, value_in, sums_of, none}
-use Rattle.trades.specs.laws.Trades.{Small, AllSmall}
-use Rattle.twap.specs.Span.{Span, missing, sum}
-use Rattle.price_rules.specs.declared.Method.TheVariants.{Vwap, Twap}
-use Rattle.price_rules.specs.declared.Mean.{Mean}
-use Rattle.price_rules.specs.declared.Mean.TheVariants.{Of, Missing}
+use Rattle.trades.specs.laws.Trades.{Small}
 use Rattle.price_rules.specs.declared.Sum.{Sum}
-use Rattle.price_rules.specs.Closing.{Figures, applied, less_of, base_of, implied_by, implied, deals_sum, vwap_sum, vwap_lots, twap_by}
+use Rattle.price_rules.specs.Closing.{Figures, applied, less_of, base_of, implied_by, implied, deals_sum, vwap_sum, vwap_lots}
 
 -- an instrument's total; none where there is no such instrument
 abbrev pub total_at : List Total → ℕ → Total
@@ -58,18 +53,6 @@ sum_by marks closes totals first (suc n) = add_instrument marks closes (sum_by m
 pub sum-next : (marks : ℕ) (closes : List ℕ) (totals : List Total) (first n : ℕ) {s t : Sum} → s ≡ sum_by marks closes totals first n → t ≡ add_instrument marks closes s (first + n) (total_at totals (first + n)) → t ≡ sum_by marks closes totals first (n + 1)
 unfolding sum_by
 sum-next marks closes totals first n e f = f ∙ rw (e, add-one n)
-
--- ---- a mean by its two ways
-
--- what holds of a VWAP at the minimum or more, of a TWAP that has its sum, and of none, holds of the mean
-pub by-method : (P : Mean → Type 0) (marks : ℕ) (closes : List ℕ) (i : ℕ) (n : ℤ) (lots : ℕ) (span : Span) → (minimum_lots ≤ lots → P (Of Vwap n lots)) → ((s : ℤ) → span ≡ sum s → P (Of Twap (implied_by marks closes i window_length s) window_length)) → P Missing
-    → P (cond (leb minimum_lots lots) (Of Vwap n lots) (twap_by marks closes i span))
-by-method P marks closes i n lots span vwap twap none = by (leb minimum_lots lots) refl span refl
-  where
-    by : (b : Bool) → leb minimum_lots lots ≡ b → (x : Span) → span ≡ x → P (cond b (Of Vwap n lots) (twap_by marks closes i x))
-    by true e x q = vwap (leb-true minimum_lots lots e)
-    by false e missing q = none
-    by false e (sum s) q = twap s q
 
 -- ---- sizes
 
@@ -115,12 +98,6 @@ within_more marks {closes} b n s i t small w =
       lots = omega (arith, w.lots);
       sum = omega (arith, w.sum, size-+ s.sum part, implied-size marks b i t.lots t.value lots value);
     }
-
--- the sum of n instruments
-pub sum-within : (marks : ℕ) {closes : List ℕ} → Bounded closes → (totals : List Total) → AllSmall 1048576 totals → (first n : ℕ) → Within n (sum_by marks closes totals first n)
-unfolding sum_by
-sum-within marks b totals small first zero = within_none
-sum-within marks {closes} b totals small first (suc n) = within_more marks b n (sum_by marks closes totals first n) (first + n) (total_at totals (first + n)) (small (first + n)) (sum-within marks b totals small first n)
 
 -- ---- trade by trade, and by totals: lots times the other leg's close, with the value, is the sum of lots times implied price
 

@@ -8,10 +8,9 @@ use Rattle.field.specs.declared.Field.{Field}
 use Rattle.field.specs.declared.Field.TheVariants.{PreviousClose, Trade}
 use Rattle.market.specs.Market.{M3, M2, M4, M1, Cash, is_in, named, metal_of, contract_of, leg_of, step_of, start_of, window_length, in_window, marked}
 use Rattle.market.specs.laws.Rows.{window-length}
-use Rattle.price_rules.specs.declared.Method.TheVariants.{Vwap, Twap}
 use Rattle.cents.specs.Round.{round}
-use Rattle.cents.specs.Close.{Said, close_of, close_from}
-use Rattle.cents.specs.Close as cents
+use Rattle.price_rules.specs.declared.Method.TheVariants.{Vwap, Twap}
+use Rattle.cents.specs.Close.{close_of}
 use Rattle.indicator.specs.Indicator.{taken, after_from, twap_sum}
 use Rattle.indicator.specs.Spans.{spans_from, products_of}
 use Rattle.indicator.specs.laws.Spans.{by-spans}
@@ -21,18 +20,18 @@ use Rattle.twap.specs.Span.{missing, sum, span_of}
 use Rattle.trades.specs.Trades.{Deal, counts, trade_in, trades_in, lots_in}
 use Rattle.price_rules.specs.Closing.{Told, close, refused, row_answer, Known, answer_by, figures_of, vwap_lots, vwap_sum, deals_sum, implied_by}
 
--- a contract's answer by its row, from fields of a metal with no marks and the third value 0, with the closes before it in pricing order; a sum over
--- its divisor, rounded to a step; the trades of an instrument that count; the step of a contract of a Copper sheet without records, by its third value and what is known
+-- a contract's answer by its row, from fields of a metal with no marks and the third value 0, with the closes before it in pricing order; a rounded
+-- number; the trades of an instrument that count; the step of a contract of a Copper sheet without records, by its third value and what is known
 pub data Case : Type 0 where
   priced : ℕ → List Field → List ℕ → ℕ → Told → Case
   stepped : ℕ → Known → ℕ → Told → Case
-  rounds : ℤ → ℕ → ℕ → Said → Case
+  rounds : ℤ → ℕ → ℕ → ℤ → Case
   counting : ℕ → ℕ → List Field → List Deal → Case
 
 abbrev pub Holds : Case → Type 0
 Holds (priced metal fs closes c answer) = row_answer (figures_of metal 0 0 fs) closes c ≡ answer
 Holds (stepped third k c answer) = answer_by (figures_of 4 0 third []) k c ≡ answer
-Holds (rounds n d u said) = close_from n d u ≡ said
+Holds (rounds n d u m) = round n d u ≡ m
 Holds (counting metal i fs deals) = trades_in metal i fs ≡ deals
 
 abbrev pub AllHold : List Case → Type 0
@@ -72,25 +71,25 @@ for_cash = PreviousClose 11 (record { cents = pos 50 }) ∷ []
 abbrev nickel_at : ℕ → List Field
 nickel_at time = Trade time 1 (record { cents = neg_ℤ (pos 500) }) 4 ∷ []
 
--- 3M at 7,003.00 by 7 lots, which rounding moved up by 150 over 7, and whether a contract behind it was refused
+-- 3M at 7,003.00 by 7 lots, and whether a contract behind it was refused
 abbrev behind_three : Bool → Known
-behind_three stopped = record { closes = 700300 ∷ 0 ∷ 0 ∷ 0 ∷ 0 ∷ 0 ∷ []; stopped = stopped; three = close Vwap 700300 7 (pos 150) 7 }
+behind_three stopped = record { closes = 700300 ∷ 0 ∷ 0 ∷ 0 ∷ 0 ∷ 0 ∷ []; stopped = stopped; three = close Vwap 700300 7 }
 
 abbrev pub cases : List Case
 cases =
-    priced 4 for_m3 (920100 ∷ []) M3 (close Vwap 920560 375 (pos 0) 375) ∷  -- P1
-    priced 4 for_m2 (920100 ∷ 920560 ∷ []) M2 (close Vwap 920806 320 (neg_ℤ (pos 80)) 320) ∷  -- P2
-    priced 4 for_m4 (920100 ∷ 920560 ∷ 920806 ∷ []) M4 (close Vwap 920225 676 (pos 164) 676) ∷  -- P3
-    priced 4 for_m1 (920100 ∷ 920560 ∷ 920806 ∷ 920225 ∷ []) M1 (close Twap 921186 0 (pos 0) 300000) ∷  -- P4
-    priced 4 for_cash (920100 ∷ 920560 ∷ 920806 ∷ 920225 ∷ 921186 ∷ []) Cash (close Twap 921236 0 (pos 0) 300000) ∷  -- P5
-    rounds (pos 920125) 1 50 (cents.close 920150 (pos 25)) ∷  -- P6
-    rounds (pos 920124) 1 50 (cents.close 920100 (neg_ℤ (pos 24))) ∷  -- P7
-    rounds (pos 1800049) 1 100 (cents.close 1800000 (neg_ℤ (pos 49))) ∷  -- P8
-    priced 4 five_lots (1000 ∷ 1000 ∷ []) M2 (close Vwap 1016 5 (pos 0) 5) ∷  -- P9
-    priced 4 four_lots (1000 ∷ 1000 ∷ []) M2 (close Twap 1010 4 (pos 0) 300000) ∷  -- P10
+    priced 4 for_m3 (920100 ∷ []) M3 (close Vwap 920560 375) ∷  -- P1
+    priced 4 for_m2 (920100 ∷ 920560 ∷ []) M2 (close Vwap 920806 320) ∷  -- P2
+    priced 4 for_m4 (920100 ∷ 920560 ∷ 920806 ∷ []) M4 (close Vwap 920225 676) ∷  -- P3
+    priced 4 for_m1 (920100 ∷ 920560 ∷ 920806 ∷ 920225 ∷ []) M1 (close Twap 921186 0) ∷  -- P4
+    priced 4 for_cash (920100 ∷ 920560 ∷ 920806 ∷ 920225 ∷ 921186 ∷ []) Cash (close Twap 921236 0) ∷  -- P5
+    rounds (pos 920125) 1 50 (pos 920150) ∷  -- P6
+    rounds (pos 920124) 1 50 (pos 920100) ∷  -- P7
+    rounds (pos 1800049) 1 100 (pos 1800000) ∷  -- P8
+    priced 4 five_lots (1000 ∷ 1000 ∷ []) M2 (close Vwap 1016 5) ∷  -- P9
+    priced 4 four_lots (1000 ∷ 1000 ∷ []) M2 (close Twap 1010 4) ∷  -- P10
     counting 1 1 (nickel_at 58499999) (record { price = neg_ℤ (pos 500); lots = 4 } ∷ []) ∷  -- P11
     counting 1 1 (nickel_at 58500000) [] ∷  -- P12
-    stepped 1 (behind_three false) M3 (close Vwap 700300 7 (pos 150) 7) ∷  -- P13
+    stepped 1 (behind_three false) M3 (close Vwap 700300 7) ∷  -- P13
     stepped 2 (behind_three true) M4 (refused 15 0) ∷  -- P14
     stepped 1 (behind_three false) M4 (refused 13 0) ∷  -- P15
     []
@@ -126,7 +125,7 @@ unfolding span_of after_from
 none-span = refl
 
 pub cases-hold : AllHold cases
-unfolding figures_of row_answer step_of contract_of vwap_lots vwap_sum trades_in trade_in counts in_window start_of metal_of lots_in deals_sum implied_by leg_of marked named is_in close_from close_of round
+unfolding figures_of row_answer step_of contract_of vwap_lots vwap_sum trades_in trade_in counts in_window start_of metal_of lots_in deals_sum implied_by leg_of marked named is_in close_of round
 cases-hold = (
   simp window-length,
   (

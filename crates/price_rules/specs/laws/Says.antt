@@ -13,11 +13,11 @@ use Rattle.price_rules.specs.Says.{answer_says, closings_say, closed_says}
 -- an answer, read off what it says
 
 abbrev answer-of : Told → Answer
-answer-of (close method m lots remainder divisor) = Priced method m lots remainder divisor
+answer-of (close method m lots) = Priced method m lots
 answer-of (refused number lots) = cond (eqb number 13) (NoReference lots) (cond (eqb number 14) (OutOfRange lots) NotReached)
 
 answer_back : (a : Answer) → answer-of (answer_says a) ≡ a
-answer_back (Priced method m lots remainder divisor) = refl
+answer_back (Priced method m lots) = refl
 answer_back (NoReference lots) = refl
 answer_back (OutOfRange lots) = refl
 answer_back NotReached = refl

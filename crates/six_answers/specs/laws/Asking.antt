@@ -97,13 +97,13 @@ module _ (third : ℕ) (lots : List ℕ) (c : ℕ) {t : Bool} (e : t ≡ named t
   unfolding asks
   asks-not h = sym (rw (sym e ∙ h) refl)
 
-  pub asks-by : t ≡ false → {row : Contract} {x : ℕ} → row ≡ contract_of c → x ≡ lots_from lots row.first (row.past - row.first) → ltb x minimum_lots ≡ asks third lots c
+  pub asks-by : t ≡ false → {row : Contract} {x : ℕ} → row ≡ contract_of c → x ≡ lots_from lots row.first (row.past - row.first) → ltb x 5 ≡ asks third lots c
   unfolding asks
-  asks-by h r g = rw (sym e ∙ h, g, r) (below (own_lots lots c) (dec_lt (own_lots lots c) minimum_lots))
+  asks-by h r g = rw (sym e ∙ h, g, r) (below (own_lots lots c) (dec_lt (own_lots lots c) 5))
     where
-      below : (n : ℕ) → Dec (n < minimum_lots) → ltb n minimum_lots ≡ not (leb minimum_lots n)
-      below n (yes l) = rw (lt-ltb n minimum_lots l, lt-leb minimum_lots n l) refl
-      below n (no l) = rw (le-ltb n minimum_lots (omega arith), le-leb minimum_lots n (omega arith)) refl
+      below : (n : ℕ) → Dec (n < 5) → ltb n 5 ≡ not (leb 5 n)
+      below n (yes l) = rw (lt-ltb n 5 l, lt-leb 5 n l) refl
+      below n (no l) = rw (le-ltb n 5 (omega arith), le-leb 5 n (omega arith)) refl
 
 -- one of the first n
 unfoldable pub some_ask : ℕ → List ℕ → ℕ → Bool

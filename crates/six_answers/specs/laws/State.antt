@@ -1,22 +1,18 @@
 -- What is known before each contract: every close that is known is a close, and one step of the code is one step of the definition.
 --     view             a rounded price is a close from 1 to 99,999,999, or 14
---     answers-all      what holds of every answer by a row, and of 15, holds of every answer
 --     known-bounded    every close that is known is at most 99,999,999
---     closings-at      the answer of a contract among the six
 --     Stands           the code's state before a contract: at the first, one step on, and behind the last
 -- Assumes nothing.
-use Rattle.std.specs.Prelude.{◌≡◌, refl, Bool, ◌&&◌, cond, List, [], ◌∷◌, T, leb, eqb, length, set, replicate, ℤ, pos, negsuc}
+use Rattle.std.specs.Prelude.{◌≡◌, refl, Bool, true, false, ◌&&◌, cond, List, [], ◌∷◌, ℕ, zero, suc, ◌+◌, ◌≤◌, ◌<◌, T, leb, eqb, length, set, replicate, ℤ, pos, negsuc}
 use Rattle.std.proofs.Math.Path.{ap}
 use Rattle.std.proofs.Common.{◌∙◌, arith, ne_eqb, leb→le, get_or-set_same, get_or-set_other}
-use Rattle.std.proofs.Math.Bool.{true, false}
-use Prim.Native.Nat.{ℕ, zero, suc, ◌+◌, ◌≤◌, ◌<◌}
 use Rattle.std.proofs.Math.Numerals.{add-one}
 use Rattle.std.proofs.Math.Decide.{dec_lt}
 use Rattle.std.proofs.Math.ListN.{get_or, length-set}
 use Rattle.std.proofs.lemmas.List.{set-get_or}
 use Rattle.market.specs.Market.{3M, contract_of, step_of, named}
 use Rattle.cents.specs.Round.{round}
-use Rattle.cents.specs.Close.{close_of, close_from}
+use Rattle.cents.specs.Close.{close_of}
 use Rattle.cents.specs.Close as cents
 use Rattle.price_rules.specs.declared.Method.{Method}
 use Rattle.price_rules.specs.declared.Method.TheVariants.{Vwap}
@@ -26,76 +22,57 @@ use Rattle.price_rules.specs.declared.Answer.{Answer}
 use Rattle.price_rules.specs.declared.Answer.TheVariants.{Priced}
 use Rattle.price_rules.specs.declared.SixAnswers.{SixAnswers}
 use Rattle.price_rules.specs.Closing.{Figures, lots_of, mean_of, Told, close, refused, closed, answered, row_answer, Known, answer_by, closes_with, is_refused, learnt, nothing_known, known_at, answer_of, closings_of}
-use Rattle.trades.specs.laws.Trades.{numbered}
 use Rattle.price_rules.specs.laws.Adding.{Bounded}
 use Rattle.price_rules.specs.Says.{answer_says, closings_say}
 
 -- ---- a rounded price
 
-pub data View (z r : ℤ) : Type 0 where
-  price : (m : ℕ) → z ≡ pos m → m ≤ 99999999 → close_of z r ≡ cents.close m r → View z r
-  no-price : close_of z r ≡ cents.refused 14 → View z r
+pub data View (z : ℤ) : Type 0 where
+  price : (m : ℕ) → z ≡ pos m → m ≤ 99999999 → close_of z ≡ cents.close m → View z
+  no-price : close_of z ≡ cents.refused 14 → View z
 
 and_right : (a b : Bool) → T (a && b) → T b
 and_right true b t = t
 and_right false b t = absurd t
 
-pub view : (z r : ℤ) → View z r
+pub view : (z : ℤ) → View z
 unfolding close_of
-view (pos m) r = by (leb 1 m && leb m 99999999) refl
+view (pos m) = by (leb 1 m && leb m 99999999) refl
   where
-    by : (t : Bool) → (leb 1 m && leb m 99999999) ≡ t → View (pos m) r
+    by : (t : Bool) → (leb 1 m && leb m 99999999) ≡ t → View (pos m)
     by true e = price m refl (leb→le m 99999999 (and_right (leb 1 m) (leb m 99999999) (rw e tt))) (rw e)
     by false e = no-price (rw e)
-view (negsuc m) r = no-price refl
+view (negsuc m) = no-price refl
 
 -- ---- every close that is known is a close
 
 -- the close of an answer, where it has one
 abbrev pub Small : Told → Type 0
-Small (close method m lots remainder divisor) = m ≤ 99999999
+Small (close method m lots) = m ≤ 99999999
 Small (refused number lots) = Unit {0}
 
-closed-small : (method : Method) (lots divisor : ℕ) (z r : ℤ) → Small (closed method lots divisor (close_of z r))
-closed-small method lots divisor z r = by (view z r)
+closed-small : (method : Method) (lots : ℕ) (z : ℤ) → Small (closed method lots (close_of z))
+closed-small method lots z = by (view z)
   where
-    by : View z r → Small (closed method lots divisor (close_of z r))
+    by : View z → Small (closed method lots (close_of z))
     by (price m e h c) = rw c h
     by (no-price c) = rw c tt
 
 answered-small : (step lots : ℕ) (m : Mean) → Small (answered step lots m)
-unfolding close_from
-answered-small step lots (Of method n d) = closed-small method lots d (round n d step) _
+answered-small step lots (Of method n d) = closed-small method lots (round n d step)
 answered-small step lots Missing = tt
 
 row_small : (day : Figures) (closes : List ℕ) (c : ℕ) → Small (row_answer day closes c)
 unfolding row_answer
 row_small day closes c = answered-small (step_of day.metal c) (lots_of day (contract_of c)) (mean_of day closes (contract_of c))
 
--- what holds of 15 and of every answer by a row holds of every answer
-module _ (day : Figures) (P : Told → Type 0) (none : P (refused 15 0)) (row : (closes : List ℕ) (c : ℕ) → c < 6 → P (row_answer day closes c)) where
-  answer-by : (k : Known) (c : ℕ) → c < 6 → P k.three → P (answer_by day k c)
-  answer-by k c h three = by k.stopped (named day.third c)
-    where
-      by : (t n : Bool) → P (cond t (refused 15 0) (cond n k.three (row_answer day k.closes c)))
-      by true n = none
-      by false true = three
-      by false false = row k.closes c h
-
-  three-all : (c : ℕ) → c ≤ 6 → P (known_at day c).three
-  unfolding known_at
-  three-all zero h = none
-  three-all (suc c) h = by (eqb c 3M) (three-all c (omega arith))
-    where
-      by : (t : Bool) → P (known_at day c).three → P (cond t (answer_by day (known_at day c) c) (known_at day c).three)
-      by true three = answer-by (known_at day c) c (omega arith) three
-      by false three = three
-
-  pub answers-all : (c : ℕ) → c < 6 → P (answer_of day c)
-  answers-all c h = answer-by (known_at day c) c h (three-all c (omega arith))
-
-answer-small : (day : Figures) (c : ℕ) → c < 6 → Small (answer_of day c)
-answer-small day = answers-all day Small tt (λ closes c h. row_small day closes c)
+answer-small : (day : Figures) (k : Known) (c : ℕ) → Small k.three → Small (answer_by day k c)
+answer-small day k c h = by k.stopped (named day.third c)
+  where
+    by : (t n : Bool) → Small (cond t (refused 15 0) (cond n k.three (row_answer day k.closes c)))
+    by true n = tt
+    by false true = h
+    by false false = row_small day k.closes c
 
 set-small : (l : List ℕ) (i m : ℕ) → m ≤ 99999999 → ((c : ℕ) → get_or l c 0 ≤ 99999999) → (c : ℕ) → get_or (set l i m) c 0 ≤ 99999999
 set-small [] i m h k c = k c
@@ -105,29 +82,44 @@ set-small (x ∷ l) (suc i) m h k zero = k zero
 set-small (x ∷ l) (suc i) m h k (suc c) = set-small l i m h (λ j. k (suc j)) c
 
 closes-bounded : (closes : List ℕ) (c : ℕ) (a : Told) → Bounded closes → Small a → Bounded (closes_with closes c a)
-closes-bounded closes c (close method m lots remainder divisor) b s = record { small = set-small closes c m s b.small }
+closes-bounded closes c (close method m lots) b s = record { small = set-small closes c m s b.small }
 closes-bounded closes c (refused number lots) b s = b
+
+-- what is known of a contract, 3M's answer too, has only closes
+record AllSmall (k : Known) : Type 0 where
+  closes : Bounded k.closes
+  three : Small k.three
+
+learnt-small : (k : Known) (c : ℕ) (a : Told) → AllSmall k → Small a → AllSmall (learnt k c a)
+learnt-small k c a b s = record { closes = closes-bounded k.closes c a b.closes s; three = by (eqb c 3M) }
+  where
+    by : (t : Bool) → Small (cond t a k.three)
+    by true = s
+    by false = b.three
 
 none-set : (n c : ℕ) → ◌≡◌ {A = ℕ} (get_or (replicate n 0) c 0) 0
 none-set zero c = refl
 none-set (suc n) zero = refl
 none-set (suc n) (suc c) = none-set n c
 
-pub known-bounded : (day : Figures) (c : ℕ) → c ≤ 6 → Bounded (known_at day c).closes
+known_small : (day : Figures) (c : ℕ) → AllSmall (known_at day c)
 unfolding known_at
-known-bounded day zero h = record { small = λ c. omega (arith, none-set 6 c) }
-known-bounded day (suc c) h = closes-bounded (known_at day c).closes c (answer_of day c) (known-bounded day c (omega arith)) (answer-small day c (omega arith))
+known_small day zero = record { closes = record { small = λ c. omega (arith, none-set 6 c) }; three = tt }
+known_small day (suc c) = let k = known_small day c in learnt-small (known_at day c) c (answer_by day (known_at day c) c) k (answer-small day (known_at day c) c k.three)
+
+pub known-bounded : (day : Figures) (c : ℕ) → Bounded (known_at day c).closes
+known-bounded day c = (known_small day c).closes
 
 -- ---- one step of the code
 
 -- the close of an answer, 0 where it has none
 abbrev pub close_in : Told → ℕ
-close_in (close method m lots remainder divisor) = m
+close_in (close method m lots) = m
 close_in (refused number lots) = 0
 
 -- a contract that is still to be priced has no close
 with-unset : (closes : List ℕ) (c : ℕ) (a : Told) (j : ℕ) → c < j → get_or closes j 0 ≡ 0 → get_or (closes_with closes c a) j 0 ≡ 0
-with-unset closes c (close method m lots remainder divisor) j h e = get_or-set_other closes c j m 0 (λ f. omega arith) ∙ e
+with-unset closes c (close method m lots) j h e = get_or-set_other closes c j m 0 (λ f. omega arith) ∙ e
 with-unset closes c (refused number lots) j h e = e
 
 unset : (day : Figures) (c j : ℕ) → c ≤ j → get_or (known_at day c).closes j 0 ≡ 0
@@ -137,7 +129,7 @@ unset day (suc c) j h = with-unset (known_at day c).closes c (answer_by day (kno
 
 -- so that the close is what is learnt at its place, 0 where there is none
 with-is : (closes : List ℕ) (c : ℕ) (a : Told) → get_or closes c 0 ≡ 0 → set closes c (close_in a) ≡ closes_with closes c a
-with-is closes c (close method m lots remainder divisor) e = refl
+with-is closes c (close method m lots) e = refl
 with-is closes c (refused number lots) e = rw e at (set-get_or closes c 0)
 
 -- what is known, as the code has it
@@ -146,7 +138,7 @@ known_by closes stopped three = record { closes = closes; stopped = stopped; thr
 
 -- an array of six answers by name; what its `get_or` gives past the end is never asked
 abbrev pub at : List Answer → ℕ → Answer
-at six c = get_or six c (Priced Vwap 0 0 (pos 0) 0)
+at six c = get_or six c (Priced Vwap 0 0)
 
 abbrev pub by_name : List Answer → SixAnswers
 by_name six = record { three = at six 0; m3 = at six 1; m2 = at six 2; m4 = at six 3; m1 = at six 4; cash = at six 5 }
@@ -154,11 +146,6 @@ by_name six = record { three = at six 0; m3 = at six 1; m2 = at six 2; m4 = at s
 closings-are : (day : Figures) {a b c d e f : Told} → a ≡ answer_of day 0 → b ≡ answer_of day 1 → c ≡ answer_of day 2 → d ≡ answer_of day 3 → e ≡ answer_of day 4 → f ≡ answer_of day 5 → a ∷ b ∷ c ∷ d ∷ e ∷ f ∷ [] ≡ closings_of day
 unfolding closings_of
 closings-are day p q r s t u = cc
-
--- the answer of a contract among the six
-pub closings-at : (day : Figures) (c : ℕ) → c < 6 → get_or (closings_of day) c (refused 15 0) ≡ answer_of day c
-unfolding closings_of
-closings-at day c h = numbered (answer_of day) 0 6 c (refused 15 0) h ∙ ap (answer_of day) (omega arith)
 
 -- before contract c: what is known, and the answers so far
 pub record Stands (day : Figures) (closes : List ℕ) (stopped : Bool) (six : List Answer) (c : ℕ) : Type 0 where
@@ -180,7 +167,7 @@ stands-first day six e n = record { within = omega arith; closes-long = refl; si
 
 module _ (day : Figures) {closes : List ℕ} {stopped : Bool} {six : List Answer} {c : ℕ} (s : Stands day closes stopped six c) where
   pub stands-bounded : Bounded closes
-  stands-bounded = rw (← ap (λ (k : Known). k.closes) s.known) at (known-bounded day c s.within)
+  stands-bounded = rw (← ap (λ (k : Known). k.closes) s.known) at (known-bounded day c)
 
   pub stands-next : (a : Answer) {m : ℕ} {t : Bool} → c < 6 → answer_says a ≡ answer_by day (known_by closes stopped (answer_says (at six 0))) c → m ≡ close_in (answer_says a) → t ≡ is_refused (answer_says a) → Stands day (set closes c m) t (set six c a) (c + 1)
   unfolding known_at

@@ -2,7 +2,7 @@
 use Rattle.std.specs.Prelude.{ℕ, suc, ◌+◌, ◌*◌, ◌/◌, ◌%◌, ◌≤◌, ◌<◌, ◌≡◌, refl, Bool, true, false, List, [], ◌∷◌, ◌++◌, ℤ, pos, negsuc, nat_abs, length}
 use Rattle.std.proofs.Common.{sym, ap, ◌∙◌, subst, arith, div-lt_iff_lt-mul, length-append}
 use Rattle.text.specs.Ascii.{ascii}
-use Rattle.text.specs.Decimal.{digit, decimal, sign_of}
+use Rattle.text.specs.Decimal.{digit, decimal}
 use Rattle.numerals.specs.laws.Numerals.{clash, digits-short}
 use Rattle.wire.specs.Big.{Bytes}
 use Rattle.field.specs.declared.Price.{Price}
@@ -23,7 +23,7 @@ use Rattle.sheet.specs.Fields.{fields_of, encode}
 use Rattle.sheet.specs.Judgement.{accepts, judge_sheet}
 use Rattle.sheet.specs.laws.Accepted.{Chain, last, more, accepted-chain, accepted-small}
 use Rattle.sheet.specs.laws.Encoding.{accepted-encodes}
-use Rattle.dollars.specs.Dollars.{amount, price_text}
+use Rattle.dollars.specs.Dollars.{sign_of, amount, price_text}
 use Rattle.names.specs.Names.{metal_name, instrument_name}
 use Rattle.names.specs.laws.Names.{metal-length, instrument-length}
 use Rattle.items.specs.Items.{joined_to}

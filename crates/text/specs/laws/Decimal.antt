@@ -1,10 +1,10 @@
 -- How long a decimal can be, and that it is what `io::decimal` writes. Assumes nothing.
-use Rattle.std.specs.Prelude.{ℕ, zero, suc, ◌-◌, ◌*◌, ◌/◌, ◌%◌, ◌^◌, ◌≤◌, ◌<◌, ◌≡◌, List, ℤ, pos, negsuc, length, take}
+use Rattle.std.specs.Prelude.{ℕ, zero, suc, ◌-◌, ◌*◌, ◌/◌, ◌%◌, ◌^◌, ◌≤◌, ◌<◌, ◌≡◌, List, length, take}
 use Rattle.std.proofs.Common.{◌∙◌, arith, pow-suc, div-lt_iff_lt-mul, le-div_iff_mul-le, mod-eq_of_lt, mod-lt, length-append, lt-ltb, le-ltb}
 use Rattle.std.proofs.Math.Nat.{one-le-pow, pow-le-pow_right}
 use Rattle.std.proofs.Math.Decide.{dec_le, dec_lt}
 use Rattle.io.specs.Digits.{last_digits, IsDigitCount}
-use Rattle.text.specs.Decimal.{decimal_in, decimal, sign_of, signed}
+use Rattle.text.specs.Decimal.{decimal_in, decimal}
 
 choose-length : (k n : ℕ) (t : Dec (n < 10)) → length (decimal_in k (n / 10)) ≤ k → length (decimal_in (suc k) n) ≤ suc k
 unfolding decimal_in
@@ -15,11 +15,6 @@ pub decimal-length : (k n : ℕ) → length (decimal_in k n) ≤ k
 unfolding decimal_in
 decimal-length zero n = omega arith
 decimal-length (suc k) n = choose-length k n (dec_lt n 10) (decimal-length k (n / 10))
-
-pub signed-length : (z : ℤ) → length (signed z) ≤ 21
-unfolding sign_of
-signed-length (pos n) = omega (arith, decimal-length 20 n)
-signed-length (negsuc n) = omega (arith, decimal-length 20 (suc n))
 
 one-digit : (k n : ℕ) → n < 10 → last_digits 10 1 n ≡ decimal_in (suc k) n
 unfolding decimal_in

@@ -4,11 +4,11 @@ use mathlib.Core.Logic.{⊎_elim}
 use native.Mathlib.Omega.{arith}
 use borrow.Author.Rules.{rules}
 use Rattle.sheet.specs.laws.Walk.{left}
-use Rattle.twap.specs.laws.Pass.{Passing, pass-start, start-timely, pass-done, pass-fair, pass-headed, pass-inside, pass_fits, pass-own, pass-none}
+use Rattle.twap.specs.laws.Pass.{Passing, pass-start, start_small, pass-done, pass-fair, pass-headed, pass-inside, pass_fits, pass-own, pass-none}
 use Rattle.twap.proofs.lines_of.Statement.{statement}
 use Rattle.twap.proofs.lines_of.Tie as tie
 
-ruleset passing = (pass-start, start-timely, pass-done, pass-fair, pass-headed, pass-inside, pass_fits, rules)
+ruleset passing = (pass-start, start_small, pass-done, pass-fair, pass-headed, pass-inside, pass_fits, rules)
 
 abbrev invariant-loop : tie.invariant-loop
 invariant-loop sheet metal row lines₀ at₀ lines at = Passing metal sheet at lines

@@ -2,11 +2,11 @@
 use Prim.Native.Nat.{◌-◌, ◌≤◌}
 use borrow.Author.Rules.{rules}
 use Rattle.sheet.specs.Fields.{fields_of}
-use Rattle.twap.specs.laws.Pass.{Summing, sum-start, sum_done, sum-fair, sum-next, start-timely, lines-ready}
+use Rattle.twap.specs.laws.Pass.{Summing, sum-start, sum_done, sum-fair, sum-next, start_small, lines-ready}
 use Rattle.twap.proofs.sums_of.Statement.{statement}
 use Rattle.twap.proofs.sums_of.Tie as tie
 
-ruleset summing = (sum-start, sum_done, sum-fair, sum-next, start-timely, lines-ready, rules)
+ruleset summing = (sum-start, sum_done, sum-fair, sum-next, start_small, lines-ready, rules)
 
 abbrev invariant-loop : tie.invariant-loop
 invariant-loop sheet metal row lines sums₀ i₀ sums i = (i ≤ 12) × Summing metal (fields_of sheet) sums i

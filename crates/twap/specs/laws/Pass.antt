@@ -151,9 +151,9 @@ module _ (tag : ℕ) (b : List ℕ) where
 pub pass-start : (metal : ℕ) (s : List ℕ) {ls : List Line} {row : Metal} → Filled s → row ≡ metal_of metal → ls ≡ new_lines row → Passing metal s 0 ls
 pass-start metal s f w e = rw (e, w) (pass-first (line_of metal) (new_line 0) s f (record { long = refl; each = new-at metal }))
 
--- an instrument's window starts at a time of the day
-pub start-timely : (metal i : ℕ) {row : Metal} {x : ℕ} → row ≡ metal_of metal → x ≡ start_in row i → x ≤ 86399999
-start-timely metal i w e = rw (e, w, start-in metal i) (omega (arith, start-early metal i))
+-- an instrument's window starts early enough for its end to be a time
+pub start_small : (metal i : ℕ) {row : Metal} {x : ℕ} → row ≡ metal_of metal → x ≡ start_in row i → x ≤ 60900000
+start_small metal i w e = rw (e, w, start-in metal i) (start-early metal i)
 
 module _ (metal : ℕ) (s : List ℕ) (at : ℕ) (ls : List Line) (o : Passing metal s at ls) where
   pub pass-done : length s ≤ at → Kept (line_of metal) (new_line 0) (fields_of s) ls

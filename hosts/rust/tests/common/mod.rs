@@ -54,28 +54,6 @@ pub fn rows(table: &str, least: usize) -> Vec<Row> {
     rows
 }
 
-/// The thirty numbers of a line of the table of answers.
-pub fn answers_of(row: &Row) -> [i64; 30] {
-    assert_eq!(row.numbers.len(), 30, "{}", row.text);
-    std::array::from_fn(|number| row.numbers[number] as i64)
-}
-
-/// A list as a line of the table of answers has them, with what rounding took where it is wanted.
-pub fn list_of(row: &Row, rounding: bool) -> String {
-    let metal = ["Nickel", "Aluminium", "Zinc", "Copper", "Lead"][usize::from(row.bytes[3]) - 1];
-    let contracts = ["3M", "M3", "M2", "M4", "M1", "Cash"];
-    let line = |(contract, numbers): (&str, &[i128])| match numbers {
-        [1 | 2, close, lots, remainder, divisor] => {
-            let method = if numbers[0] == 1 { "VWAP" } else { "TWAP" };
-            let behind = if rounding { format!(" {remainder} {divisor}") } else { String::new() };
-            format!("{contract} {method} {close} {lots}{behind}\n")
-        }
-        _ => format!("{contract} refused {} {}\n", numbers[0], numbers[2]),
-    };
-    let lines = contracts.into_iter().zip(row.numbers.chunks(5)).map(line);
-    format!("{metal}\n{}", lines.collect::<String>())
-}
-
 /// A line of the table of moves: to the long header or to the short one, in so much room, the sheet and what it is moved to or its refusal.
 pub struct Move {
     pub to_new: bool,
@@ -182,23 +160,6 @@ pub fn nickel_of(trades: usize, quotes: usize) -> Vec<u8> {
 /// The same by a long header, of 7 bytes, with this third value.
 pub fn long_nickel_of(third: u8, trades: usize, quotes: usize) -> Vec<u8> {
     behind_header(&[6, 0, 4, 1, 0, 0, third], trades, quotes)
-}
-
-/// So many trades of a sheet from this byte on, one behind the other, at another price.
-pub fn at_price(mut sheet: Vec<u8>, first: usize, trades: usize, cents: i32) -> Vec<u8> {
-    for trade in sheet[first..].chunks_exact_mut(14).take(trades) {
-        trade[8..12].copy_from_slice(&cents.to_be_bytes());
-    }
-    sheet
-}
-
-/// The rows of a contract without a reference and of one that is not reached, with no lots.
-pub const NO_REFERENCE: [i64; 5] = [13, 0, 0, 0, 0];
-pub const NOT_REACHED: [i64; 5] = [15, 0, 0, 0, 0];
-
-/// The thirty numbers of six rows.
-pub fn thirty(rows: [[i64; 5]; 6]) -> [i64; 30] {
-    std::array::from_fn(|number| rows[number / 5][number % 5])
 }
 
 fn behind_header(header: &[u8], trades: usize, quotes: usize) -> Vec<u8> {
