@@ -1,5 +1,7 @@
 // The fields of a day sheet one after the other. Hosts don't call it. Whether a field may come next, by its place, its values and the end's count,
 // and what is kept behind it.
+#![tactic(auto)]
+
 ghost use Rattle.std.specs.Prelude.{◌≡◌, ◌<◌};
 ghost use Rattle.admit.specs.Admitting.{start, before_of, placed, count_number, admit_number, admitted, admit_says};
 ghost use Rattle.admit.specs.Admitting as Admitting;
@@ -9,7 +11,7 @@ use field::{Before, Field, Form, number};
 
 // What is kept between two fields. stage 0: a header comes next; 1: previous closes may still come; 2: trades and quotes only. metal, marks and
 // form are the header's. A previous close's instrument is at least instrument, a record's time at least time. count: the fields so far.
-#[derive(Drop)]
+#[derive(Clone, Copy)]
 pub struct Progress {
     pub stage: u8,
     pub metal: u8,
@@ -21,7 +23,7 @@ pub struct Progress {
 }
 
 // A field that may come next and what is kept behind it, the right end field, or the number of a refusal.
-#[derive(Drop)]
+#[derive(Clone, Copy)]
 pub enum Admitted {
     Next(Progress),
     Ended,

@@ -1,6 +1,8 @@
 // What a C or a Rust program links: a sheet's list, its judgement and its six answers, a text turned into a sheet and back, a sheet moved to the other
 // header, and single fields read and written, as plain numbers in lent memory. Each function takes a covered one's answer apart; a refusal's number is
 // handed back, and 0 says yes.
+#![tactic(auto)]
+
 ghost use Rattle.std.specs.Prelude.{◌≡◌, ◌∷◌, [], pos};
 ghost use Rattle.std.proofs.Math.ListN as ListN;
 ghost use Rattle.text.specs.Over.{put_place, put_buffer};
@@ -61,7 +63,7 @@ pub extern "C" fn bliskoru_judge(sheet: &[u8], at: &mut usize) -> u8
 }
 
 // A contract's answer as numbers: method or refusal, close, lots.
-#[derive(Drop)]
+#[derive(Clone, Copy)]
 pub struct Row {
     pub told: u64,
     pub close: u64,
@@ -232,7 +234,7 @@ pub extern "C" fn bliskoru_to_old_header(
 }
 
 // A value of a field as a number of 64 bits.
-#[derive(Drop)]
+#[derive(Clone, Copy)]
 pub struct Value {
     pub number: i64,
 }

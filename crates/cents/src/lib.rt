@@ -1,5 +1,7 @@
 // Rounding to a price: a sum of cents over its divisor, to a step, halves up, and whether that is a close. Everything that prices a
 // contract ends here. specs/ has the number itself, specs/laws its laws and those of signed whole numbers that the other crates use.
+#![tactic(auto)]
+
 ghost use Rattle.std.specs.Prelude.{◌≡◌, ◌+◌, ◌^◌, ◌<◌, pos};
 ghost use Rattle.cents.specs.Round.{round};
 ghost use Rattle.cents.specs.Close.{close_of, means};
@@ -9,7 +11,7 @@ ghost use Rattle.cents.specs.laws.Close.{nearest};
 const HIGHEST: u64 = 99_999_999;
 
 // A rounded price in cents, where it is a close.
-#[derive(Drop)]
+#[derive(Clone, Copy)]
 pub enum Rounded {
     Close(u32),
     OutOfRange,

@@ -1,5 +1,7 @@
 // One contract's answer, by its row of the tables, the totals of the day's trades, its TWAP instrument's sum and the closes before it, rounded once.
 // Hosts do not call it: what its functions ask of their caller, `six_answers` has from an accepted sheet.
+#![tactic(auto)]
+
 ghost use Rattle.std.specs.Prelude.{◌≡◌, ◌<◌};
 ghost use Rattle.twap.specs.Span.{span_says};
 ghost use Rattle.price_rules.specs.Closing.{twap_by, answered};

@@ -1,4 +1,6 @@
 // Prices as the tape has them: dollars with two decimals, a minus before a negative one, no negative zero.
+#![tactic(auto)]
+
 ghost use Rattle.std.specs.Prelude.{◌≡◌, ◌-◌, ◌<◌, ◌^◌};
 ghost use Rattle.dollars.specs.Dollars.{pointed, cents, upward, downward, price};
 
@@ -6,7 +8,7 @@ use field::Price;
 use numerals::{Number, digit_of, is_digit, read_number};
 
 // A price in cents; or these bytes are no price.
-#[derive(Drop)]
+#[derive(Clone, Copy)]
 pub enum Money {
     Cents(Price),
     Malformed,

@@ -1,4 +1,6 @@
 // Reads one field at a place of a sheet: its values with the place behind it, or the first number it earns; and its body as a part of the sheet.
+#![tactic(auto)]
+
 ghost use Rattle.std.specs.Prelude.{◌≡◌, ◌≤◌, length, get_or};
 ghost use Rattle.field.specs.declared.Field.TheVariants as F;
 ghost use Rattle.field.specs.Judging as Judging;

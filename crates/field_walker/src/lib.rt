@@ -1,4 +1,6 @@
 // A reader that holds the lent sheet and its place, for hosts that go field by field. Each function takes it apart and calls the field reader.
+#![tactic(auto)]
+
 ghost use Rattle.std.specs.Prelude.{◌≡◌};
 ghost use Rattle.field.specs.Said.{read_says};
 ghost use Rattle.field_walker.specs.Said.{turned, turn_says};
@@ -8,14 +10,14 @@ use field::Read;
 use field_reader::{field_body, read_field};
 
 // The lent sheet, and the place of the field that it looks at.
-#[derive(Drop)]
+#[derive(Clone, Copy)]
 pub struct Walker<'a> {
     pub sheet: &'a [u8],
     pub at: usize,
 }
 
 // One turn of a walk: the field at a place, how long its body is, and the place that a step leads to.
-#[derive(Drop)]
+#[derive(Clone, Copy)]
 pub struct Turn {
     pub read: Read,
     pub length: usize,

@@ -1,4 +1,6 @@
 // Writes one field into a lent buffer from a place onward: the part that starts at the place is lent on, and a refusal changes no byte.
+#![tactic(auto)]
+
 ghost use Rattle.std.specs.Prelude.{◌≡◌};
 ghost use Rattle.field.specs.Said.{written_says};
 ghost use Rattle.field.specs.Writing.{field_size, write_number, written, buffer_after};

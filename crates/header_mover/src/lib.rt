@@ -1,5 +1,7 @@
 // A sheet with the other header, at the start of a lent buffer: an old sheet gets the long header, and a new one the short header again. The sheet is
 // judged and the moved one measured before a byte is written, so a refusal changes none.
+#![tactic(auto)]
+
 ghost use Rattle.std.specs.Prelude.{◌≡◌, length};
 ghost use Rattle.text.specs.Over.{over};
 ghost use Rattle.field.specs.declared.Field.TheVariants as F;

@@ -1,19 +1,21 @@
 // The indicator of one instrument, a small state handed back changed by each record, and its value. Hosts don't call it.
 // specs/ has the indicator at each millisecond of a window and its sum, specs/laws the laws of that sum.
+#![tactic(auto)]
+
 ghost use Rattle.std.specs.Prelude.{◌≡◌};
 ghost use Rattle.indicator.specs.Indicator.{empty, side_of, else_at, below, below_offer, inside_book, after_close, after_trade, after_quote, value_of, taken};
 
 use field::{Field, Price};
 
 // A price that may be absent.
-#[derive(Drop)]
+#[derive(Clone, Copy)]
 pub enum Side {
     Absent,
     At(Price),
 }
 
 // The last trade of the day so far, else the previous close; and the book.
-#[derive(Drop)]
+#[derive(Clone, Copy)]
 pub struct Indicator {
     pub reference: Side,
     pub bid: Side,

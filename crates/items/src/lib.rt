@@ -1,4 +1,6 @@
 // A text is cut at its line feeds into lines, and a line at its commas into items: where a piece ends.
+#![tactic(auto)]
+
 ghost use Rattle.std.specs.Prelude.{◌≡◌};
 ghost use Rattle.items.specs.Items.{end_of};
 

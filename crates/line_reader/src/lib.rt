@@ -1,4 +1,6 @@
 // One line of the tape, without its line feed, as a field of a day sheet; what a field's line is.
+#![tactic(auto)]
+
 ghost use Rattle.std.specs.Prelude.{◌≡◌};
 ghost use Rattle.line_reader.specs.Lines.{side_in, trade_in, quote_in, header_in, long_header_in, previous_in, three, four, five, field_in};
 
@@ -9,14 +11,14 @@ use names::{instrument_in, is_name, metal_in};
 use numerals::{Number, read_number};
 
 // The field that a line says, its values not yet judged; or the line is malformed, or names what there is not.
-#[derive(Drop)]
+#[derive(Clone, Copy)]
 pub enum Line {
     Field(Field),
     Malformed,
 }
 
 // A side of a quote: its bit and its price, both 0 where it is absent.
-#[derive(Drop)]
+#[derive(Clone, Copy)]
 pub enum Side {
     Is(u8, Price),
     Malformed,

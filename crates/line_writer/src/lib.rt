@@ -1,4 +1,6 @@
 // A field's line, with its line feed, at a place of a lent buffer, item by item. Hosts do not call it: it asks that the buffer has room for the line.
+#![tactic(auto)]
+
 ghost use Rattle.std.specs.Prelude.{◌≡◌, ◌∷◌, ◌++◌, ◌+◌, ◌≤◌, length, take};
 ghost use Rattle.text.specs.Over.{over};
 ghost use Rattle.text.specs.Decimal.{decimal};

@@ -1,5 +1,7 @@
 // The closing list of a day sheet as text, put into a lent buffer whole or not at all: the metal's name and a line for each contract, or the one
 // line of a sheet that is refused or too long.
+#![tactic(auto)]
+
 ghost use Rattle.std.specs.Prelude.{◌≡◌};
 ghost use Rattle.text.specs.Over.{put_place, put_buffer};
 ghost use Rattle.text.specs.Held.{Has, held};

@@ -1,4 +1,6 @@
 // What the closing list of a day sheet is; in code its lines, each put behind a text: a contract's, the six in pricing order, and a refusal's.
+#![tactic(auto)]
+
 ghost use Rattle.std.specs.Prelude.{◌≡◌, ◌∷◌, []};
 ghost use Rattle.text.specs.Held.{held, ◌⊕◌};
 ghost use Rattle.text.specs.Decimal.{decimal};

@@ -1,10 +1,12 @@
 // The constant tables by metal, by contract, by instrument and by the header's third value, the windows and the marks: RULES 1 to 4. Hosts don't call it.
+#![tactic(auto)]
+
 ghost use Rattle.std.specs.Prelude.{◌≡◌, cond, eqb};
 ghost use Rattle.market.specs.Market.{metal_of, contracts, contract_by, instruments, row_leg, leg_of, start_of, in_window, marked, named, barred};
 ghost use Rattle.market.specs.laws.Rows.{start_in, bit_of, has_bit};
 
 // A metal's spread start and anchor start, in milliseconds of the day, and its 3M step, in cents.
-#[derive(Drop)]
+#[derive(Clone, Copy)]
 pub struct Metal {
     pub spread: u32,
     pub anchor: u32,
@@ -12,7 +14,7 @@ pub struct Metal {
 }
 
 // VWAP from the instruments first to past - 1, TWAP from one of them; a step of 0 is the metal's.
-#[derive(Drop)]
+#[derive(Clone, Copy)]
 pub struct Contract {
     pub first: u8,
     pub past: u8,
@@ -21,7 +23,7 @@ pub struct Contract {
 }
 
 // What the price of an instrument says of the contract that it prices: it is its price; or the other leg's close plus it, or less it.
-#[derive(Drop)]
+#[derive(Clone, Copy)]
 pub enum Leg {
     Outright,
     Over(usize),

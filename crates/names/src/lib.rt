@@ -1,4 +1,6 @@
 // The names on the closing list and on the tape, fixed byte strings: each by value, put behind a text, and found by its bytes.
+#![tactic(auto)]
+
 ghost use Rattle.std.specs.Prelude.{◌≡◌, ◌≤◌, length, take};
 ghost use Rattle.text.specs.Held.{held, ◌⊕◌};
 ghost use Rattle.names.specs.Names.{metal_name, contract_name, instrument_name, method_name, same, metal_in, instrument_in, in_name};
@@ -8,7 +10,7 @@ use price_rules::Method;
 use text::Text;
 
 // A name by value: its bytes, and spaces behind them.
-#[derive(Drop)]
+#[derive(Clone, Copy)]
 pub struct Name {
     pub bytes: [u8; 9],
     pub len: usize,
@@ -19,8 +21,11 @@ fn named(s: &[u8]) -> Name
     ensures { result ≡ in_name s.now }
 {
     let mut store = [32u8; 9];
-    let len = bytes::copy(s, &mut store);
-    Name { bytes: store, len }
+    store[..s.len()].copy_from_slice(s);
+    Name {
+        bytes: store,
+        len: s.len(),
+    }
 }
 
 // The name of a metal, 1 to 5; no bytes for any other.

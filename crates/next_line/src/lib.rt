@@ -1,5 +1,7 @@
 // The line at a place of a text: the field that it says and the place behind it, or that it is malformed, or that no line feed follows. Hosts don't
 // call it. A trade or a quote that stands there just as it is written is recognised by one look at its bytes; every other line `line_reader` reads.
+#![tactic(auto)]
+
 ghost use Rattle.std.specs.Prelude.{◌≡◌, ◌+◌, ◌^◌, ◌<◌, ◌≤◌, [], ◌∷◌, length, unsigned_abs};
 ghost use Rattle.text.specs.Decimal.{decimal};
 ghost use Rattle.dollars.specs.Dollars.{amount, price_text, priced};
@@ -16,7 +18,7 @@ use names::{instrument_in, is_name};
 use numerals::Number;
 
 // The field of the line and the place behind its line feed; or the line is malformed; or no line feed follows.
-#[derive(Drop)]
+#[derive(Clone, Copy)]
 pub enum NextLine {
     Field(Field, usize),
     Malformed,
@@ -24,26 +26,26 @@ pub enum NextLine {
 }
 
 // Each of these holds what stands at a place, and the place behind it: 0 where it does not stand there.
-#[derive(Drop)]
+#[derive(Clone, Copy)]
 pub struct NumberAt {
     pub value: u32,
     pub next: usize,
 }
 
-#[derive(Drop)]
+#[derive(Clone, Copy)]
 pub struct InstrumentAt {
     pub instrument: u8,
     pub next: usize,
 }
 
-#[derive(Drop)]
+#[derive(Clone, Copy)]
 pub struct PriceAt {
     pub price: Price,
     pub next: usize,
 }
 
 // bit is 1 for a side that is there, 0 for a dash.
-#[derive(Drop)]
+#[derive(Clone, Copy)]
 pub struct SideAt {
     pub bit: u8,
     pub price: Price,
@@ -51,14 +53,14 @@ pub struct SideAt {
 }
 
 // What trades and quotes begin with.
-#[derive(Drop)]
+#[derive(Clone, Copy)]
 pub struct StampAt {
     pub time: u32,
     pub instrument: u8,
     pub next: usize,
 }
 
-#[derive(Drop)]
+#[derive(Clone, Copy)]
 pub struct RecordAt {
     pub field: Field,
     pub next: usize,

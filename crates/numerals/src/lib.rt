@@ -1,9 +1,11 @@
 // Whole numbers in decimal as the tape has them: no sign, no needless leading zero, any number of digits. One that is too big stops rising at a given number.
+#![tactic(auto)]
+
 ghost use Rattle.std.specs.Prelude.{◌≡◌, ◌-◌};
 ghost use Rattle.numerals.specs.Numerals.{is_digit, opens, risen, number};
 
 // The number, at most the given one; or these bytes are no number.
-#[derive(Drop)]
+#[derive(Clone, Copy)]
 pub enum Number {
     Value(u32),
     Malformed,

@@ -1,5 +1,7 @@
 // The definitions of the six answers, and the sums that they are priced from: lots, and lots times implied price. Hosts do not call it: what
 // its functions ask of their caller, `six_answers` has from an accepted sheet.
+#![tactic(auto)]
+
 ghost use Rattle.std.specs.Prelude.{◌≡◌, ◌+◌, ◌*◌, ◌≤◌, ◌<◌, pos, nat_abs, get_or};
 ghost use Rattle.trades.specs.laws.Trades.{AllSmall};
 ghost use Rattle.market.specs.Market.{instruments};
@@ -10,14 +12,14 @@ use market::{Leg, is_marked, leg_by};
 use sheet::Day;
 use trades::Total;
 
-#[derive(Drop)]
+#[derive(Clone, Copy)]
 pub enum Method {
     Vwap,
     Twap,
 }
 
 // A contract's answer. Lots are the sum over its VWAP instruments in the window.
-#[derive(Drop)]
+#[derive(Clone, Copy)]
 pub enum Answer {
     Priced {
         method: Method,
@@ -33,7 +35,7 @@ pub enum Answer {
 }
 
 // The answers in pricing order.
-#[derive(Drop)]
+#[derive(Clone, Copy)]
 pub struct SixAnswers {
     pub three: Answer,
     pub m3: Answer,
@@ -44,14 +46,14 @@ pub struct SixAnswers {
 }
 
 // The six answers of an accepted sheet with what its header says, or the sheet's refusal: number and byte.
-#[derive(Drop)]
+#[derive(Clone, Copy)]
 pub enum Closed {
     Six(Day, SixAnswers),
     Refused(u8, usize),
 }
 
 // What the six contracts are priced from, besides the sheet: its header and the totals of its trades.
-#[derive(Drop)]
+#[derive(Clone, Copy)]
 pub struct Book {
     pub metal: u8,
     pub marks: u16,
@@ -60,14 +62,14 @@ pub struct Book {
 }
 
 // Lots, and the sum of lots times implied price.
-#[derive(Drop)]
+#[derive(Clone, Copy)]
 pub struct Sum {
     pub lots: u64,
     pub sum: i64,
 }
 
 // What is divided by what.
-#[derive(Drop)]
+#[derive(Clone, Copy)]
 pub enum Mean {
     Of {
         method: Method,

@@ -1,10 +1,12 @@
 // What programs that turn one file into another share: room for the longest sheet and the longest text, and what they write, the first bytes of a
 // buffer to a file or a text to standard error. Hosts don't call it.
+#![tactic(auto)]
+
 ghost use Rattle.std.specs.Prelude.{◌≡◌, length, replicate};
 
 use filled_buffer::Filled;
-use libc::{STDERR_FILENO, STDOUT_FILENO};
 use list_lines::put_refusal;
+use std::io::{Print, Result};
 use text::{Put, Text};
 
 // How many bytes a sheet may have.
@@ -30,25 +32,33 @@ pub fn text_room() -> [u8; 3_145_729]
 }
 
 // The first n bytes, where there are so many.
-pub fn write_part(file: i32, bytes: &[u8], n: usize) {
+pub fn write_part<P: Print>(file: &P, bytes: &[u8], n: usize) -> Result<()> {
     if n <= bytes.len() {
-        io::write_all(file, &bytes[..n]);
+        file.write_all(&bytes[..n])?;
     }
+    Ok(())
 }
 
 // A text on standard error.
-pub fn say(text: Text) {
+pub fn say<E: Print>(error: &E, text: Text) -> Result<()> {
     let mut out = [0u8; 512];
     match text.put_into(&mut out, 0) {
-        Put::Next(n) => write_part(STDERR_FILENO, &out, n),
-        Put::Full => {}
+        Put::Next(n) => write_part(error, &out, n),
+        Put::Full => Ok(()),
     }
 }
 
 // What stands at the start of a buffer on standard output; or what refused it on standard error.
-pub fn hand_out(told: Filled, bytes: &[u8]) {
+pub fn hand_out<O: Print, E: Print>(
+    output: &O,
+    error: &E,
+    told: Filled,
+    bytes: &[u8],
+) -> Result<()> {
     match told {
-        Filled::Whole(n) => write_part(STDOUT_FILENO, bytes, n),
-        Filled::Refused(number, place) => say(put_refusal(Text::empty(), number, place as u64)),
+        Filled::Whole(n) => write_part(output, bytes, n),
+        Filled::Refused(number, place) => {
+            say(error, put_refusal(Text::empty(), number, place as u64))
+        }
     }
 }

@@ -1,5 +1,7 @@
 // A field's values from the bytes of its body. Hosts do not call it: it asks that the tag is right and the body as long as the tag says, which its
 // callers know.
+#![tactic(auto)]
+
 ghost use Rattle.std.specs.Prelude.{◌≡◌, true, ◌+◌, ◌≤◌, length};
 ghost use Rattle.field.specs.Layout.{tag_right, length_of, header_of, previous_of, trade_of, quote_of, end_of, long_header_of, price_at, field_of};
 

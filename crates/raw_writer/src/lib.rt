@@ -1,5 +1,7 @@
 // A field's head and body as bytes at the start of a lent part, by small big-endian writers. Hosts do not call it: it asks that the part has room
 // for them, which `field_writer` has tested.
+#![tactic(auto)]
+
 ghost use Rattle.std.specs.Prelude.{◌≡◌, [], ◌∷◌, ◌++◌, ◌+◌, ◌≤◌, length};
 ghost use Rattle.wire.specs.Big.{bytes4, put};
 ghost use Rattle.field.specs.Layout.{length_of, tag_of, head_bytes, form_bytes, body_bytes, field_bytes, price_bytes};

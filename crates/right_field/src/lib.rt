@@ -1,5 +1,7 @@
 // Whether a right field of a tag stands at a place of a sheet, judged by itself and its time put aside: one look at its bytes, and no field is made.
 // What a field that is not right earns, `field_reader` and `admit` say. Hosts don't call it.
+#![tactic(auto)]
+
 ghost use Rattle.std.specs.Prelude.{◌≡◌, ◌≤◌, length};
 ghost use Rattle.field.specs.Layout.{header_by, previous_of, trade_of, quote_of, long_header_of};
 ghost use Rattle.right_field.specs.laws.Right.{values_right, right_at};

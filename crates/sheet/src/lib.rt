@@ -1,5 +1,7 @@
 // A whole day sheet: accepted, with the header's values and the number of fields, or one numbered refusal with its byte. Its laws serve every
 // pass over a sheet's bytes.
+#![tactic(auto)]
+
 ghost use Rattle.std.specs.Prelude.{◌≡◌, ◌+◌, ◌<◌, ◌≤◌, length, get_or};
 ghost use Rattle.wire.specs.Big.{be2_at, be4_at};
 ghost use Rattle.field.specs.Judging.{both, third_of, allowed};
@@ -19,7 +21,7 @@ use right_field::{right_header, right_long_header, right_previous, right_quote, 
 use wire::{join2, join4};
 
 // What an accepted sheet's header says, and how many fields it has, the end with them.
-#[derive(Drop)]
+#[derive(Clone, Copy)]
 pub struct Day {
     pub metal: u8,
     pub marks: u16,
@@ -28,7 +30,7 @@ pub struct Day {
 }
 
 // A sheet that is accepted, or the number of the refusal and the byte that goes with it.
-#[derive(Drop)]
+#[derive(Clone, Copy)]
 pub enum Judged {
     Accepted(Day),
     Refused(u8, usize),
@@ -52,7 +54,7 @@ fn at_end(len: usize, next: usize, p: Progress) -> Judged
 }
 
 // A place in a sheet, and what is kept of the fields before it.
-#[derive(Drop)]
+#[derive(Clone, Copy)]
 struct Reached {
     at: usize,
     progress: Progress,

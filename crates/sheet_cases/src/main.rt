@@ -1,66 +1,73 @@
 // Judges sheets that are written as hexadecimal digits, one sheet to a line, and prints what is said of each. A line that starts with # is
 // printed as it stands, so that input and output read side by side; a sheet behind = is priced, and its six answers are printed.
+#![tactic(auto)]
+
 ghost use Rattle.std.specs.Prelude.{◌≡◌, ◌<◌, ◌≤◌, length};
 
-use libc::{STDIN_FILENO, STDOUT_FILENO};
 use list_lines::{put_lines, put_refusal};
 use price_rules::Closed;
 use sheet::{Judged, judge_sheet};
 use six_answers::closings;
+use std::io::{Print, Result};
 use text::Text;
+use whole_input::read_full;
 
 // A number behind a space.
-fn print_number(n: u64) {
-    io::write_all(STDOUT_FILENO, b" ");
-    io::print_decimal(STDOUT_FILENO, n);
+fn print_number<P: Print>(output: &P, n: u64) -> Result<()> {
+    output.write_all(b" ")?;
+    output.print(n)
 }
 
 // A number behind `refused`, and what comes with it.
-fn print_refused(number: u64, with: u64) {
-    io::write_all(STDOUT_FILENO, b"refused");
-    print_number(number);
-    print_number(with);
+fn print_refused<P: Print>(output: &P, number: u64, with: u64) -> Result<()> {
+    output.write_all(b"refused")?;
+    print_number(output, number)?;
+    print_number(output, with)
 }
 
 // The bytes of a text.
-fn print_text(t: Text) {
+fn print_text<P: Print>(output: &P, t: Text) -> Result<()> {
     let store = t.store;
     let len = t.len;
     if len <= 512 {
-        io::write_all(STDOUT_FILENO, &store[..len]);
+        output.write_all(&store[..len])?;
     }
+    Ok(())
 }
 
 // The six answers of a sheet, a line each, or its refusal.
-fn print_answers(sheet: &[u8]) {
+fn print_answers<P: Print>(output: &P, sheet: &[u8]) -> Result<()> {
     match closings(sheet) {
-        Closed::Six(_, six) => print_text(put_lines(Text::empty(), six)),
-        Closed::Refused(number, at) => print_text(put_refusal(Text::empty(), number, at as u64)),
+        Closed::Six(_, six) => print_text(output, put_lines(Text::empty(), six)),
+        Closed::Refused(number, at) => print_text(
+            output,
+            put_refusal(Text::empty(), number, at as u64),
+        ),
     }
 }
 
 // What is said of a sheet, on a line of its own.
-fn print_judged(sheet: &[u8]) {
+fn print_judged<P: Print>(output: &P, sheet: &[u8]) -> Result<()> {
     match judge_sheet(sheet) {
         Judged::Accepted(day) => {
-            io::write_all(STDOUT_FILENO, b"accepted");
-            print_number(day.metal as u64);
-            print_number(day.marks as u64);
-            print_number(day.fields as u64);
+            output.write_all(b"accepted")?;
+            print_number(output, day.metal as u64)?;
+            print_number(output, day.marks as u64)?;
+            print_number(output, day.fields as u64)?;
         }
         Judged::Refused(number, at) => {
-            print_refused(number as u64, at as u64);
+            print_refused(output, number as u64, at as u64)?;
         }
     }
-    io::write_all(STDOUT_FILENO, b"\n");
+    output.write_all(b"\n")
 }
 
 // A sheet's answers, or what its judgement says.
-fn print_said(priced: bool, sheet: &[u8]) {
+fn print_said<P: Print>(output: &P, priced: bool, sheet: &[u8]) -> Result<()> {
     if priced {
-        print_answers(sheet);
+        print_answers(output, sheet)
     } else {
-        print_judged(sheet);
+        print_judged(output, sheet)
     }
 }
 
@@ -113,39 +120,40 @@ fn decode(line: &[u8], out: &mut [u8]) -> usize
 }
 
 // Judges the sheet that a line says, or prices it.
-fn answer_line(priced: bool, line: &[u8], space: &mut [u8]) {
+fn answer_line<P: Print>(output: &P, priced: bool, line: &[u8], space: &mut [u8]) -> Result<()> {
     let n = decode(line, space);
-    print_said(priced, &space[..n]);
+    print_said(output, priced, &space[..n])
 }
 
 // One line of the input.
-fn take_line(line: &[u8]) {
+fn take_line<P: Print>(output: &P, line: &[u8]) -> Result<()> {
     let mut space = [0u8; 4096];
     if 0 < line.len() {
         if line[0] == 35 {
-            io::write_all(STDOUT_FILENO, line);
-            io::write_all(STDOUT_FILENO, b"\n");
-            return;
+            output.write_all(line)?;
+            output.write_all(b"\n")?;
+            return Ok(());
         }
         if line[0] == 61 {
-            answer_line(true, &line[1..], &mut space);
-            return;
+            answer_line(output, true, &line[1..], &mut space)?;
+            return Ok(());
         }
     }
-    answer_line(false, line, &mut space);
+    answer_line(output, false, line, &mut space)
 }
 
 // Each line of the input.
-fn take_lines(text: &[u8]) {
+fn take_lines<P: Print>(output: &P, text: &[u8]) -> Result<()> {
     let mut from = 0;
     let mut i = 0;
     while i < text.len() {
         if text[i] == 10 {
-            take_line(&text[from..i]);
+            take_line(output, &text[from..i])?;
             from = i + 1;
         }
         i += 1;
     }
+    Ok(())
 }
 
 // A sheet's greatest length and one byte more, all zero.
@@ -156,21 +164,20 @@ fn zeros() -> [u8; 1048577]
 }
 
 // Judges the first n bytes.
-fn judge_first(long: &[u8], n: usize) {
+fn judge_first<P: Print>(output: &P, long: &[u8], n: usize) -> Result<()> {
     if n <= long.len() {
-        print_judged(&long[..n]);
+        print_judged(output, &long[..n])?;
     }
+    Ok(())
 }
 
-fn main() {
-    let mut text = io::large_buffer();
-    let n = io::read_full(STDIN_FILENO, &mut text);
-    take_lines(&text[..n]);
+fn main(rt: HostRuntime) -> Result<()> {
+    let output = &rt.stdout();
+    let mut text = [0u8; 65536];
+    let n = read_full(&mut rt.stdin(), &mut text)?;
+    take_lines(output, &text[..n])?;
     let long = zeros();
-    io::write_all(
-        STDOUT_FILENO,
-        b"# B17 as many zero bytes as a sheet may have, and one more\n",
-    );
-    judge_first(&long, 1_048_576);
-    judge_first(&long, 1_048_577);
+    output.write_all(b"# B17 as many zero bytes as a sheet may have, and one more\n")?;
+    judge_first(output, &long, 1_048_576)?;
+    judge_first(output, &long, 1_048_577)
 }

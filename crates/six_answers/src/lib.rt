@@ -1,5 +1,7 @@
 // The six answers of a day sheet: 3M, M3, M2, M4, M1 and Cash, each with its method, close and lots, or a numbered refusal. One step for all
 // contracts, each with the closes before it.
+#![tactic(auto)]
+
 ghost use Rattle.std.specs.Prelude.{◌≡◌, map, ◌-◌, ◌≤◌, ◌<◌};
 ghost use Rattle.market.specs.Market.{contracts};
 ghost use Rattle.sheet.specs.Fields.{fields_of};

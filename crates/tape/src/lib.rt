@@ -1,5 +1,7 @@
 // The text tape as a whole: the sheet of a text and the text of a sheet, as definitions; in code a text is judged line after line, before a byte
 // of its sheet is written. Hosts don't call it.
+#![tactic(auto)]
+
 ghost use Rattle.std.specs.Prelude.{◌≡◌, ◌≤◌};
 ghost use Rattle.tape.specs.Tape.{capped, at_last, text_says};
 ghost use Rattle.tape.specs.laws.Measuring.{grown, measured};
@@ -10,7 +12,7 @@ use field::{Field, number};
 use next_line::{NextLine, next_line};
 
 // A text that is accepted, with the bytes of its fields, which stop rising at one above the limit; or a number and a line.
-#[derive(Drop)]
+#[derive(Clone, Copy)]
 pub enum Measured {
     Bytes(u32),
     Refused(u8, usize),

@@ -1,4 +1,6 @@
 // The sheet of a text in a lent buffer. All lines are judged and the sheet is measured before a byte is written, so a refusal changes none.
+#![tactic(auto)]
+
 ghost use Rattle.std.specs.Prelude.{◌≡◌, ◌+◌, ◌≤◌, length};
 ghost use Rattle.text.specs.Over.{over};
 ghost use Rattle.field.specs.Layout.{field_bytes};
@@ -14,7 +16,7 @@ use raw_writer::put_field;
 use tape::{Measured, judge_tape};
 
 // What the fields of a text came to: the place behind them, and how many they are.
-#[derive(Drop)]
+#[derive(Clone, Copy)]
 pub struct Laid {
     pub at: usize,
     pub count: u32,

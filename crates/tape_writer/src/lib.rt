@@ -1,4 +1,6 @@
 // The text of a sheet in a lent buffer. The sheet is judged and the room is known to be enough before a byte is written, so a refusal changes none.
+#![tactic(auto)]
+
 ghost use Rattle.std.specs.Prelude.{◌≡◌, ◌≤◌, leb, length};
 ghost use Rattle.text.specs.Over.{over};
 ghost use Rattle.sheet.specs.Fields.{fields_of};

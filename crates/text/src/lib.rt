@@ -1,11 +1,13 @@
 // Text that is put together from byte strings and numbers, and put into a lent buffer whole or not at all.
+#![tactic(auto)]
+
 ghost use Rattle.std.specs.Prelude.{◌≡◌, ◌+◌, ◌≤◌, length};
 ghost use Rattle.text.specs.Over.{over, put_place, put_buffer};
 ghost use Rattle.text.specs.Held.{Added, empty_text, held, place_after, buffer_after};
 ghost use Rattle.text.specs.Decimal.{decimal};
 
 // The place behind what was put; or there is no room for it.
-#[derive(Drop)]
+#[derive(Clone, Copy)]
 pub enum Put {
     Next(usize),
     Full,
@@ -16,7 +18,7 @@ fn copy_in(dst: &mut [u8], at: usize, s: &[u8])
     requires { at + length s.now ≤ length dst.old }
     ensures { dst.new ≡ over dst.old at s.now }
 {
-    bytes::copy(s, &mut dst[at..]);
+    dst[at..at + s.len()].copy_from_slice(s);
 }
 
 // All of the bytes from the place on, or nothing.
@@ -34,7 +36,7 @@ pub fn put_bytes(buf: &mut [u8], at: usize, s: &[u8]) -> Put
 }
 
 // A text of up to 512 bytes. A len above 512 says that what was put did not fit.
-#[derive(Drop)]
+#[derive(Clone, Copy)]
 pub struct Text {
     pub store: [u8; 512],
     pub len: usize,

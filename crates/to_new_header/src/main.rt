@@ -1,23 +1,25 @@
 // Reads an old sheet from standard input to its end and writes it with the new header to standard output. A refusal is one line on standard error.
+#![tactic(auto)]
+
 use header_mover::to_new_header;
-use libc::STDIN_FILENO;
 use program_output::{LONGEST_SHEET, hand_out, say, sheet_room};
+use std::io::{Print, Result};
 use text::Text;
+use whole_input::read_full;
 
 // The sheet with the new header, or what refuses it.
-fn turn(sheet: &[u8]) {
+fn turn<O: Print, E: Print>(output: &O, error: &E, sheet: &[u8]) -> Result<()> {
     let mut moved = sheet_room();
     let told = to_new_header(sheet, &mut moved);
-    hand_out(told, &moved);
+    hand_out(output, error, told, &moved)
 }
 
-// A read that fails ends the input.
-fn main() {
+// A read or a write that fails ends the program with its error.
+fn main(rt: HostRuntime) -> Result<()> {
     let mut sheet = sheet_room();
-    let n = io::read_full(STDIN_FILENO, &mut sheet);
+    let n = read_full(&mut rt.stdin(), &mut sheet)?;
     if LONGEST_SHEET < n {
-        say(Text::empty().put(b"too long\n"));
-        return;
+        return say(&rt.stderr(), Text::empty().put(b"too long\n"));
     }
-    turn(&sheet[..n]);
+    turn(&rt.stdout(), &rt.stderr(), &sheet[..n])
 }

@@ -1,4 +1,6 @@
 // The trades of each instrument inside its window, as lots and value: one pass over an accepted sheet's bytes. Hosts don't call it.
+#![tactic(auto)]
+
 ghost use Rattle.std.specs.Prelude.{◌≡◌, ◌≤◌, length};
 ghost use Rattle.field.specs.Layout.{trade_of};
 ghost use Rattle.field.specs.Reading.{body_at};
@@ -16,14 +18,14 @@ use raw_reader::trade_of;
 use sheet::{Judged, judge_sheet};
 
 // The lots of an instrument's trades in its window, and the sum of lots times quoted price, in cents.
-#[derive(Drop)]
+#[derive(Clone, Copy)]
 pub struct Total {
     pub lots: u64,
     pub value: i64,
 }
 
 // The judgement of a sheet, and its totals by instrument, 0 to 11.
-#[derive(Drop)]
+#[derive(Clone, Copy)]
 pub struct Traded {
     pub judged: Judged,
     pub totals: [Total; 12],
@@ -51,7 +53,7 @@ fn with_trade(total: Total, price: Price, lots: u16) -> Total
 }
 
 // What a field adds to the totals: nothing, or a trade to its instrument's.
-#[derive(Drop)]
+#[derive(Clone, Copy)]
 pub enum Counted {
     Nothing,
     Trade {

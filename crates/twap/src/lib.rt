@@ -1,5 +1,7 @@
 // What a contract's TWAP needs of each instrument: the sum of its indicator over its window, or that it has no reference. One pass from record to
 // record for all instruments. Hosts don't call it.
+#![tactic(auto)]
+
 ghost use Rattle.std.specs.Prelude.{◌≡◌, ◌≤◌, ◌*◌, nat_abs, length};
 ghost use Rattle.field.specs.Layout.{size_of};
 ghost use Rattle.field.specs.Reading.{body_at};
@@ -17,20 +19,20 @@ use market::{Metal, WINDOW, metal_of, start_in};
 use raw_reader::{previous_of, quote_of, trade_of};
 
 // A sum of cents.
-#[derive(Drop)]
+#[derive(Clone, Copy)]
 pub struct Total {
     pub cents: i64,
 }
 
 // The sum over a window, or none where there is no reference at its first millisecond.
-#[derive(Drop)]
+#[derive(Clone, Copy)]
 pub enum Summed {
     Missing,
     Sum(Total),
 }
 
 // What a field is to its instrument besides its prices.
-#[derive(Drop)]
+#[derive(Clone, Copy)]
 pub struct Stamp {
     pub instrument: u8,
     pub time: u32,
@@ -39,7 +41,7 @@ pub struct Stamp {
 
 // An instrument's line: the indicator's state, whether it had a reference at the window's start, the millisecond at which its open span begins, and
 // the sum over the spans before that.
-#[derive(Drop)]
+#[derive(Clone, Copy)]
 pub struct Line {
     pub state: Indicator,
     pub told: bool,

@@ -1,4 +1,6 @@
 // Big-endian numbers of a day sheet: joined from bytes, and put at the start of a lent part. Hosts don't call it.
+#![tactic(auto)]
+
 ghost use Rattle.std.specs.Prelude.{◌≡◌, [], ◌∷◌};
 ghost use Rattle.wire.specs.Big.{be2, be4, signed, bits, bytes2, bytes4, signed_bytes, put};
 
