@@ -1,0 +1,6 @@
+-- `bliskoru::bliskoru_write_long_header` meets its contract. Assumes nothing.
+use borrow.Author.Rules.{rules}
+use Rattle.bliskoru.proofs.bliskoru_write_long_header.Goals as goal
+
+pub returns : goal.returns
+returns c = let w = c.write.ensures in rw c.headed.ensures at w

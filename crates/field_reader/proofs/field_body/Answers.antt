@@ -1,0 +1,34 @@
+-- `field_reader::field_body` meets its contract. Assumes nothing.
+-- where the field was read, it lies in the sheet
+use Rattle.field.specs.laws.Field.{ReadOk, read_ok, Inside, shape-inside, body-given, body-none}
+use Rattle.field.specs.Said.{read_says}
+use native.Mathlib.Omega.{arith}
+use mathlib.Core.Path.{sym, ap, ◌∙◌}
+use borrow.Author.Rules.{rules}
+use Rattle.field_reader.proofs.field_body.Goals as goal
+
+known : (c : tie.After-known-told) → ReadOk c.before.before.before.before.before.args.sheet.now c.before.before.before.before.before.args.at c.before.next.given.0.0 c.before.next.given.0.1.0
+known c = read_ok _ _ _ _ (sym c.read_field.ensures ∙ ap read_says c.in-Field.is)
+
+inside : (c : tie.After-known-told) → Inside c.before.before.before.before.before.args.sheet.now c.before.before.before.before.before.args.at c.before.next.given.0.1.0
+inside c = shape-inside _ _ _ _ (known c).shape
+
+pub overflow_add-result : goal.overflow_add-result
+overflow_add-result c = omega (arith, inside c)
+
+pub slice_bounds-result-count : goal.slice_bounds-result-count
+slice_bounds-result-count c = omega (arith, inside c)
+
+pub slice_bounds-result-start : goal.slice_bounds-result-start
+slice_bounds-result-start c = omega (arith, inside c)
+
+pub slice_bounds-result-end : goal.slice_bounds-result-end
+slice_bounds-result-end c = omega (arith, inside c)
+
+pub returns-in-Field : goal.returns-in-Field
+returns-in-Field c =
+    sym (body-given _ _ _ _ (sym c.read_field.ensures ∙ ap read_says c.in-Field.is))
+
+pub returns-in-Refused : goal.returns-in-Refused
+returns-in-Refused c =
+    sym (body-none _ _ _ _ (sym c.read_field.ensures ∙ ap read_says c.in-Refused.is))

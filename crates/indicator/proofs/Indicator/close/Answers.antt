@@ -1,0 +1,6 @@
+-- `indicator::Indicator::close` meets its contract. Assumes nothing.
+use borrow.Author.Rules.{rules}
+use Rattle.indicator.proofs.Indicator.close.Goals as goal
+
+pub returns : goal.returns
+returns c = simp c.else_at-reference.ensures

@@ -1,0 +1,6 @@
+-- `indicator::Indicator::value` meets its contract. Assumes nothing.
+use borrow.Author.Rules.{rules}
+use Rattle.indicator.proofs.Indicator.value.Goals as goal
+
+pub returns-in-At : goal.returns-in-At
+returns-in-At c = simp (c.inside_book.ensures, c.in-At.is)

@@ -1,0 +1,13 @@
+-- `line_writer::put_metal` meets its contract. Assumes nothing.
+use native.Mathlib.Omega.{arith}
+use Rattle.names.specs.Names.{metal_name}
+use Rattle.names.specs.laws.Names.{metal-length, name-short, name-bytes}
+use borrow.Author.Rules.{rules}
+use Rattle.text.specs.laws.Putting.{same_bytes}
+use Rattle.line_writer.proofs.put_metal.Goals as goal
+
+pub put_name-requires : goal.put_name-requires
+put_name-requires c = let m = c.args.metal in name-short (metal_name m) _ c.metal_name.ensures (omega (arith, metal-length m))
+
+pub returns : goal.returns
+returns c = same_bytes (name-bytes _ _ c.metal_name.ensures) c.put_name.ensures

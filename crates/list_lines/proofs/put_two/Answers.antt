@@ -1,0 +1,11 @@
+-- `list_lines::put_two` meets its contract. Assumes nothing.
+use borrow.Author.Rules.{rules}
+use mathlib.Core.List.{append_assoc}
+use Rattle.text.specs.laws.Held.{⊕-⊕}
+use Rattle.list_lines.proofs.put_two.Goals as goal
+
+pub returns : goal.returns
+returns c =
+    let space = c.HERE_number-2 in
+    let a = space.before.before in
+    simp (c.put-3.ensures.holds, c.number-2.ensures.holds, space.put2.ensures.holds, a.number.ensures.holds, a.before.put.ensures.holds, ⊕-⊕, append_assoc)

@@ -1,0 +1,10 @@
+-- `market::has_bit` meets its contract. Assumes nothing.
+use borrow.Author.Rules.{rules}
+use Rattle.market.specs.laws.Rows.{bit-small}
+use Rattle.market.proofs.has_bit.Goals as goal
+
+pub overflow_shr-result : goal.overflow_shr-result
+overflow_shr-result c = rw c.bit_of.ensures (bit-small _)
+
+pub returns : goal.returns
+returns c = rw c.bit_of.ensures

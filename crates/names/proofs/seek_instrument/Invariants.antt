@@ -1,0 +1,13 @@
+-- `names::seek_instrument` meets its contract: name after name. Assumes nothing.
+use Prim.Native.Nat.{◌-◌}
+use native.Mathlib.Omega.{arith}
+use borrow.Author.Rules.{rules}
+use Rattle.names.specs.Names.{instrument_names, instrument_name, instrument_in}
+use Rattle.names.specs.laws.Finding.{Seeking, seek-instrument, instrument-short, seek-start, seek-none, turn-found, turn-next}
+use Rattle.names.proofs.seek_instrument.Given as goal
+
+abbrev pub invariant-loop-instrument : goal.invariant-loop-instrument
+invariant-loop-instrument l = Seeking instrument_names 0 l.s l.instrument
+
+abbrev pub decreases-loop-instrument : goal.decreases-loop-instrument
+decreases-loop-instrument l = 12 - l.instrument

@@ -1,0 +1,17 @@
+-- `raw_writer::put_head` meets its contract. Assumes nothing.
+use Rattle.field.specs.Layout.{length_of}
+use Rattle.wire.specs.Big.{bytes2}
+use mathlib.Core.List.{[], ◌∷◌}
+use Rattle.raw_writer.proofs.Parts.{put-behind}
+use native.Mathlib.Omega.{arith}
+use mathlib.Core.Path.{refl}
+use borrow.Author.Rules.{rules}
+use Rattle.raw_writer.proofs.put_head.Goals as goal
+
+pub returns : goal.returns
+returns c =
+    let first = c.HERE_put1 in
+    let told = first.before.before in
+    let start = told.before.before in
+    let a = start.args in
+    put-behind (a.tag ∷ []) (bytes2 (length_of a.tag)) a.part.now _ _ 1 refl (omega arith) first.put1.ensures (rw told.length-of.ensures at c.put2.ensures)

@@ -1,0 +1,19 @@
+-- `raw_writer::put_header` meets its contract. Assumes nothing.
+use Rattle.field.specs.Layout.{form_bytes, body_bytes}
+use Rattle.wire.specs.Big.{bytes2}
+use mathlib.Core.List.{[], ◌∷◌, ◌++◌}
+use Rattle.raw_writer.proofs.Parts.{put-behind}
+use native.Mathlib.Omega.{arith}
+use mathlib.Core.Path.{refl}
+use borrow.Author.Rules.{rules}
+use Rattle.raw_writer.proofs.put_header.Goals as goal
+
+pub returns : goal.returns
+unfolding body_bytes
+returns c =
+    let second = c.HERE_put2 in
+    let first = second.before.before.before.before in
+    let start = first.before.before.before in
+    let a = start.args in
+    let two = put-behind (a.metal ∷ []) (bytes2 a.marks) a.part.now _ _ 1 refl (omega arith) first.put1.ensures second.put2.ensures in
+    put-behind ((a.metal ∷ []) ++ bytes2 a.marks) (form_bytes a.form) a.part.now _ _ 3 refl (omega arith) two c.put_form.ensures

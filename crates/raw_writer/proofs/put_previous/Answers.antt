@@ -1,0 +1,16 @@
+-- `raw_writer::put_previous` meets its contract. Assumes nothing.
+use Rattle.field.specs.Layout.{price_bytes, body_bytes}
+use mathlib.Core.List.{[], ◌∷◌}
+use Rattle.raw_writer.proofs.Parts.{put-behind}
+use native.Mathlib.Omega.{arith}
+use mathlib.Core.Path.{refl}
+use borrow.Author.Rules.{rules}
+use Rattle.raw_writer.proofs.put_previous.Goals as goal
+
+pub returns : goal.returns
+unfolding body_bytes
+returns c =
+    let first = c.HERE_put1 in
+    let start = first.before.before.before in
+    let a = start.args in
+    put-behind (a.instrument ∷ []) (price_bytes a.price) a.part.now _ _ 1 refl (omega arith) first.put1.ensures c.put_price.ensures

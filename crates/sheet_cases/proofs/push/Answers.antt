@@ -1,0 +1,9 @@
+-- `sheet_cases::push` meets its contract. Assumes nothing.
+use mathlib.Core.Path.{refl}
+use lib.ListN.{length-set}
+use native.Mathlib.Omega.{arith}
+use borrow.Author.Rules.{rules}
+use Rattle.sheet_cases.proofs.push.Goals as goal
+
+pub returns-then-n-out : goal.returns-then-n-out
+returns-then-n-out c = simp length-set (omega arith, refl)

@@ -1,0 +1,28 @@
+-- `six_answers::closings` meets its contract. Assumes nothing.
+-- the sheet is accepted as it was judged
+use mathlib.Core.Path.{◌≡◌, sym, ap, ◌∙◌}
+use Rattle.sheet.specs.Fields.{fields_of}
+use Rattle.sheet.specs.Judgement.{accepts, judge_sheet, judged_says}
+use Rattle.trades.specs.Trades.{totals_by}
+use Rattle.price_rules.specs.Closing.{six, answers_by, answers_of}
+use borrow.Author.Rules.{rules}
+use Rattle.six_answers.proofs.closings.Goals as goal
+
+accepted : (c : tie.After-judged) → judge_sheet c.before.before.before.before.args.sheet.now ≡ accepts c.judged.given.0.0
+accepted c = sym c.totals-traded.ensures.judged ∙ ap judged_says c.in-Accepted.is
+
+pub price_all-requires : goal.price_all-requires
+unfolding totals_by
+price_all-requires c =
+    let e = accepted k in
+    record { accepted = record { day = _; judged = e }; totals = c.totals-traded.ensures.totals ∙ rw e }
+
+pub returns-in-Accepted : goal.returns-in-Accepted
+unfolding answers_of
+returns-in-Accepted c =
+    rw (accepted k) (ap (six c.in-Accepted.day) (rw c.third_of.ensures at c.price_all.ensures))
+
+pub returns-in-Refused : goal.returns-in-Refused
+unfolding answers_of
+returns-in-Refused c =
+    ap (answers_by (fields_of c.args.sheet.now)) (sym (ap judged_says c.in-Refused.is) ∙ c.totals-traded.ensures.judged)

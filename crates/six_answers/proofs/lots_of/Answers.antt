@@ -1,0 +1,19 @@
+-- `six_answers::lots_of` meets its contract: the first i are filled in. Assumes nothing.
+use Prim.Native.Nat.{◌-◌, ◌≤◌}
+use mathlib.Core.Path.{◌≡◌, refl}
+use native.Mathlib.Omega.{arith}
+use lib.ListN.{length}
+use Rattle.six_answers.specs.laws.Apart.{lots_only, Filled, filled_none, filled_more, filled-all}
+use borrow.Author.Rules.{rules}
+use Rattle.six_answers.proofs.lots_of.Goals as goal
+
+pub loop-i-init : goal.loop-i-init
+loop-i-init c = let long : length c.args.t1 ≡ 12 = search rules in (omega arith, long, filled_none lots_only c.args.t1 _ (omega arith))
+
+pub loop-i-preserved : goal.loop-i-preserved
+loop-i-preserved c =
+    let l = c.loop-i in
+    (omega arith, l.invariant.1, filled_more lots_only c.args.t1 l.lots l.i (omega arith) refl l.invariant.2)
+
+pub returns : goal.returns
+returns c = let l = c.loop-i in filled-all lots_only c.args.t1 l.lots l.i (omega arith) l.invariant.2

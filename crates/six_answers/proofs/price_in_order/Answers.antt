@@ -1,0 +1,51 @@
+-- `six_answers::price_in_order` meets its contract: the state before each contract stands as the definition has it. Assumes nothing.
+-- the row is the contract's
+use Prim.Native.Nat.{◌-◌}
+use mathlib.Core.Path.{◌≡◌, refl, ◌∙◌}
+use native.Mathlib.Omega.{arith}
+use Rattle.market.specs.Market.{contract_of}
+use Rattle.sheet.specs.Fields.{fields_of}
+use Rattle.price_rules.specs.Closing.{figures_of}
+use Rattle.contract_price.specs.laws.Numbers.{row_of, row-ruled}
+use Rattle.six_answers.specs.laws.Ready.{ready-small}
+use Rattle.six_answers.specs.laws.Asking.{countable}
+use Rattle.six_answers.specs.laws.Steps.{sum-lent, step_of}
+use Rattle.six_answers.specs.laws.State.{Stands, stands-first, stands-bounded, stands-next, stands-all}
+use borrow.Author.Rules.{rules}
+use Rattle.six_answers.proofs.price_in_order.Goals as goal
+
+row : (c : tie.After-contract-by invariant-loop decreases-loop) → c.contract-by.result ≡ contract_of c.before.before.before.before.loop.c
+row c = row_of _ c.contract-by.ensures c.before.before.before.before.before.before.before.before.before.contract-rows.ensures
+
+pub some_ask-requires : goal.some_ask-requires
+some_ask-requires c = (c.contract_rows-rows.ensures, countable _ c.args.values.now (ready-small _ _ c.requires))
+
+pub sums_if-sums-requires : goal.sums_if-sums-requires
+sums_if-sums-requires c = c.requires.accepted
+
+pub loop-c-init : goal.loop-c-init
+loop-c-init c = stands-first _ _ refl refl
+
+pub bounds-sums-row : goal.bounds-sums-row
+bounds-sums-row c =
+    let r = row-ruled _ c.contract_by-row.ensures c.contract_rows-rows.ensures (omega arith) in
+    omega (arith, r.among, r.inside)
+
+pub price_one-a-requires : goal.price_one-a-requires
+price_one-a-requires c =
+    let l = c.HERE_loop-c in
+    let u = l.before in
+    let t = u.before.before.before in
+    let s = t.before.before.before in
+    (sum-lent _ _ _ _ _ _ s.requires u.before.some-ask.ensures _ u.sums-if.ensures _ (omega arith) (row k) t.before.contract-rows.ensures t.instrument-rows.ensures, stands-bounded _ l.loop.invariant, omega arith)
+
+pub loop-c-preserved : goal.loop-c-preserved
+loop-c-preserved c =
+    let k = c.HERE_contract_by-row in
+    let l = k.before.before.before.before in
+    let u = l.before in
+    let s = u.before.before.before.before.before.before in
+    stands-next _ l.loop.invariant _ (omega arith) (c.price_one-a.ensures ∙ step_of _ _ _ _ _ _ s.requires u.before.some-ask.ensures _ u.sums-if.ensures _ (omega arith) (row k) _) c.close_in.ensures c.is_refused-stopped.ensures
+
+pub returns : goal.returns
+returns c = stands-all _ c.loop-c.invariant (omega arith)

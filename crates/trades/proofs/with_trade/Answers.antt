@@ -1,0 +1,39 @@
+-- `trades::with_trade` meets its contract: lots and price fit their types, and the total has room for their product. Assumes nothing.
+-- the price, lots times price, and the total with that
+use borrow.Author.Rules.{rules}
+use lib.IntN.{ℤ, pos, ◌+ℤ◌, ◌*ℤ◌}
+use mir.Syntax.{w32, w64}
+use mir.Val.{SFits, to_z, of_z}
+use Rattle.cents.specs.laws.Whole.{Known, fits, back, plus, times, cast-u16, param, param-i32}
+use Rattle.trades.proofs.with_trade.Goals as goal
+
+abbrev cents : tie.After-struct-known → ℤ
+cents c = c.before.before.before.args.price.cents
+
+price-fits : (c : tie.After-struct-known) → SFits w32 (cents c)
+price-fits c = search rules
+
+value-fits : (c : tie.After-struct-known) → SFits w64 c.before.before.before.args.total.value
+value-fits c = search rules
+
+price : (c : tie.After-struct-known) → Known 2147483648 (to_z w32 (of_z w32 (cents c))) (cents c)
+price c = param-i32 (price-fits c)
+
+product : (c : tie.After-struct-known) → let s = c.before.before.before in Known 140735340871680 (to_z w64 s.args.lots *ℤ to_z w64 (of_z w64 (to_z w32 (of_z w32 (cents c))))) (pos s.args.lots *ℤ cents c)
+product c = times (cast-u16 c.ranges.lots) (back tt (price c))
+
+sum : (c : tie.After-struct-known) → let s = c.before.before.before in
+    Known 1048716724855111680 (to_z w64 (of_z w64 s.args.total.value) +ℤ to_z w64 (of_z w64 (to_z w64 s.args.lots *ℤ to_z w64 (of_z w64 (to_z w32 (of_z w32 (cents c))))))) (s.args.total.value +ℤ pos s.args.lots *ℤ cents c)
+sum c = let s = c.HERE_ in plus (param (value-fits c) s.requires.value) (back tt (product c))
+
+pub overflow_cast-result-3 : goal.overflow_cast-result-3
+overflow_cast-result-3 c = fits tt (price c)
+
+pub overflow_mul-result : goal.overflow_mul-result
+overflow_mul-result c = fits tt (product c)
+
+pub overflow_add-result-2 : goal.overflow_add-result-2
+overflow_add-result-2 c = fits tt (sum c)
+
+pub returns : goal.returns
+returns c = cc (back tt (sum c)).known
