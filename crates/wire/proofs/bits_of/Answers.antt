@@ -8,14 +8,14 @@ use mir.Facts.{to_z-of_z, to_z_pos}
 use Rattle.wire.proofs.Signs.{Raised, raised, Flipped, flipped}
 use Rattle.wire.proofs.bits_of.Goals as goal
 
-up : (c : tie.Then1) → Raised c.before.args.z
+up : (c : goal.Then-z-ge0) → Raised c.args.z
 up c = raised c.args.z c.ranges.z (rw (to_z-of_z c.ranges.z) at c.if-z-ge0.true)
 
-down : (c : tie.Else1) → Flipped c.before.args.z
+down : (c : goal.Else-z-ge0) → Flipped c.args.z
 down c = flipped c.args.z c.ranges.z (rw (to_z-of_z c.ranges.z) at c.if-z-ge0.false)
 
 pub overflow_cast-result : goal.overflow_cast-result
-overflow_cast-result c = rw (to_z-of_z c.ranges.z) ((up c).up, (up c).ranges)
+overflow_cast-result c = rw (to_z-of_z c.ranges.z) ((up c).up, (up c).fits)
 
 pub overflow_sub-m : goal.overflow_sub-m
 overflow_sub-m c = rw (down c).is (record { sfits = (down c).small })
