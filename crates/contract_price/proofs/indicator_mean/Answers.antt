@@ -18,23 +18,21 @@ use Rattle.twap.specs.Span.{span_says}
 use borrow.Author.Rules.{rules}
 use Rattle.contract_price.proofs.indicator_mean.Goals as goal
 
-small : (c : tie.After-span) → nat_abs c.span.given.0.0.cents ≤ 29999999700000
+small : (c : goal.In-Sum-2) → nat_abs c.in-Sum.total.cents ≤ 29999999700000
 small c = summed-small c.requires.0 (sym (ap span_says c.in-Sum.is))
 
-read : (c : tie.After-span) → to_z w64 (of_z w64 c.span.given.0.0.cents) ≡ c.span.given.0.0.cents
+read : (c : goal.In-Sum-2) → to_z w64 (of_z w64 c.in-Sum.total.cents) ≡ c.in-Sum.total.cents
 read c = same_at w64 c.in-Sum.total.cents (omega (arith, mag-size c.in-Sum.total.cents, small c))
 
 pub implied_price-requires : goal.implied_price-requires
 implied_price-requires c =
-    (c.requires.1, omega arith, rw (read t) (omega (arith, small t)))
+    (c.requires.1, omega arith, rw (read c.before.before.before.before) (omega (arith, small c.before.before.before.before)))
 
 pub returns-in-Sum : goal.returns-in-Sum
 returns-in-Sum c =
-    let t = c.HERE_span-1 in
-    let s = t.before.before.before in
-    let total = t.span.given.0.0.cents in
-    let size = implied-size s.args.marks s.requires.1 s.args.i 300000 total (omega arith) (omega (arith, small t)) in
-    let part = implied-is s.args.marks s.args.closes.now s.args.i 300000 total c.leg_of.ensures c.is_marked.ensures (rw (read t) at c.implied_price.ensures) in
+    let total = c.in-Sum.total.cents in
+    let size = implied-size c.args.marks c.requires.1 c.args.i 300000 total (omega arith) (omega (arith, small c.before.before.before.before.before)) in
+    let part = implied-is c.args.marks c.args.closes.now c.args.i 300000 total c.leg_of.ensures c.is_marked.ensures (rw (read c.before.before.before.before.before) at c.implied_price.ensures) in
     ap (λ (z : ℤ). Of Twap z 300000) (back tt (known_is part size)).known
-    ∙ ap (λ (n : ℕ). Of Twap (implied_by s.args.marks s.args.closes.now s.args.i n total) n) (sym window-length)
-    ∙ ap (λ (x : Summed). twap_by s.args.marks s.args.closes.now s.args.i (span_says x)) (sym t.span.given.1)
+    ∙ ap (λ (n : ℕ). Of Twap (implied_by c.args.marks c.args.closes.now c.args.i n total) n) (sym window-length)
+    ∙ ap (λ (x : Summed). twap_by c.args.marks c.args.closes.now c.args.i (span_says x)) (sym c.in-Sum.is)

@@ -9,7 +9,7 @@ use Rattle.price_rules.specs.Closing.{closed, answered}
 use borrow.Author.Rules.{rules}
 use Rattle.contract_price.proofs.rounded.Goals as goal
 
-price : (c : tie.After-rounded-close) → let m = c.before.before.mean.given.0 in means c.rounded-close.result ≡ close_of (round m.1.0 m.1.1.0 c.before.before.before.before.args.step)
+price : (c : goal.After-rounded_close) → let m = c.in-Of.given.0 in means c.rounded_close.result ≡ close_of (round m.1.0 m.1.1.0 c.args.step)
 price c =
     let m = c.in-Of.given.0 in
     let same : to_z w64 (of_z w64 m.1.0) ≡ m.1.0 = search rules in
@@ -17,11 +17,11 @@ price c =
 
 pub returns-in-Close : goal.returns-in-Close
 returns-in-Close c =
-    rw c.in-Of.is (ap (closed c.in-Of.method c.args.lots) (sym (ap means c.in-Close.is) ∙ price q))
+    rw c.in-Of.is (ap (closed c.in-Of.method c.args.lots) (sym (ap means c.in-Close.is) ∙ price c.before.before.before))
 
 pub returns-in-OutOfRange : goal.returns-in-OutOfRange
 returns-in-OutOfRange c =
-    rw c.in-Of.is (ap (closed c.in-Of.method c.args.lots) (sym (ap means c.in-OutOfRange.is) ∙ price q))
+    rw c.in-Of.is (ap (closed c.in-Of.method c.args.lots) (sym (ap means c.in-OutOfRange.is) ∙ price c.before.before))
 
 pub returns-in-Missing : goal.returns-in-Missing
 returns-in-Missing c = sym (ap (answered _ _) c.in-Missing.is)

@@ -7,10 +7,10 @@ use mathlib.Core.Path.{sym, ap, ◌∙◌}
 use borrow.Author.Rules.{rules}
 use Rattle.field_reader.proofs.field_body.Goals as goal
 
-known : (c : tie.After-known-told) → ReadOk c.before.before.before.before.before.args.sheet.now c.before.before.before.before.before.args.at c.before.next.given.0.0 c.before.next.given.0.1.0
+known : (c : goal.In-Field) → ReadOk c.args.sheet.now c.args.at c.in-Field.field-0 c.in-Field.next
 known c = read_ok _ _ _ _ (sym c.read_field.ensures ∙ ap read_says c.in-Field.is)
 
-inside : (c : tie.After-known-told) → Inside c.before.before.before.before.before.args.sheet.now c.before.before.before.before.before.args.at c.before.next.given.0.1.0
+inside : (c : goal.In-Field) → Inside c.args.sheet.now c.args.at c.in-Field.next
 inside c = shape-inside _ _ _ _ (known c).shape
 
 pub overflow_add-result : goal.overflow_add-result

@@ -9,6 +9,5 @@ returns-then-rest-lt3 c = sym (head-short _ _ _ (rw c.remaining-rest.ensures at 
 
 pub returns : goal.returns
 returns c =
-    let here = c.HERE_if-rest-lt3 in
-    let known = here.before.remaining.ensures in
-    simp (c.tagged_number.ensures, c.join2-told.ensures, known) (sym (head-there _ _ _ (rw known at here.if1.false)))
+    let known = c.remaining-rest.ensures in
+    simp (c.tagged_number.ensures, c.join2-told.ensures, known) (sym (head-there _ _ _ (rw known at c.if-rest-lt3.false)))

@@ -7,7 +7,7 @@ use mathlib.Core.Path.{sym, ◌∙◌}
 use borrow.Author.Rules.{rules}
 use Rattle.field_reader.proofs.shape_at.Goals as goal
 
-known : (c : tie.Else1) → Headed c.before.before.before.args.sheet.now c.before.before.before.args.at (get_or c.before.before.before.args.sheet.now c.before.before.before.args.at 0)
+known : (c : goal.Else-found-ne-FINE) → Headed c.args.sheet.now c.args.at (get_or c.args.sheet.now c.args.at 0)
 known c = headed _ _ _ (sym c.head_number-found.ensures ∙ c.if-found-ne-FINE.false)
 
 pub returns-then-found-ne-FINE : goal.returns-then-found-ne-FINE
@@ -16,23 +16,22 @@ returns-then-found-ne-FINE c =
     rw found (sym (shape-not _ _ (rw found at c.if-found-ne-FINE.true)))
 
 pub bounds-sheet-at : goal.bounds-sheet-at
-bounds-sheet-at c = omega (arith, (known c.HERE_if-found-ne-FINE).some)
+bounds-sheet-at c = omega (arith, (known c.before).some)
 
 pub overflow_add-start : goal.overflow_add-start
-overflow_add-start c = omega (arith, (known c.HERE_if-found-ne-FINE).some)
+overflow_add-start c = omega (arith, (known c.before).some)
 
 pub overflow_add-next : goal.overflow_add-next
-overflow_add-next c = omega (arith, (known c.HERE_if-found-ne-FINE).whole, c.size_of.ensures)
+overflow_add-next c = omega (arith, (known c.before.before).whole, c.size_of.ensures)
 
 pub slice_bounds-field_of-end : goal.slice_bounds-field_of-end
-slice_bounds-field_of-end c = omega (arith, (known c.HERE_if-found-ne-FINE).whole, c.size_of.ensures)
+slice_bounds-field_of-end c = omega (arith, (known c.before.before).whole, c.size_of.ensures)
 
 pub field_of-requires : goal.field_of-requires
 field_of-requires c =
-    let k = known c.HERE_if-found-ne-FINE in
+    let k = known c.before.before.before in
     (k.tagged, rw (c.size_of.ensures, part-is) (body-long _ _ _ k))
 
 pub returns : goal.returns
 returns c =
-    let none = c.HERE_if-found-ne-FINE in
-    simp (c.field_of.ensures, c.size_of.ensures, part-is) (sym (shape-fine _ _ (sym none.before.head-number.ensures ∙ none.if1.false)))
+    simp (c.field_of.ensures, c.size_of.ensures, part-is) (sym (shape-fine _ _ (sym c.head_number-found.ensures ∙ c.if-found-ne-FINE.false)))

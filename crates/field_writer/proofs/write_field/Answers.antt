@@ -9,7 +9,7 @@ use mathlib.Core.Path.{sym, ◌∙◌}
 use borrow.Author.Rules.{rules}
 use Rattle.field_writer.proofs.write_field.Goals as goal
 
-known : (c : tie.Else1) → MayWrite (length c.before.before.before.args.buffer.now) c.before.before.before.args.at c.before.before.before.args.field
+known : (c : goal.Else-found-ne-FINE) → MayWrite (length c.args.buffer.now) c.args.at c.args.field
 known c = may_write _ _ _ (sym c.write_number-found.ensures ∙ c.if-found-ne-FINE.false)
 
 pub returns-then-found-ne-FINE : goal.returns-then-found-ne-FINE
@@ -25,15 +25,15 @@ pub slice_bounds-put_field-start : goal.slice_bounds-put_field-start
 slice_bounds-put_field-start c = omega (arith, (known c).room)
 
 pub put_field-requires : goal.put_field-requires
-put_field-requires c = simp (length-take, length-drop) (omega (arith, (known c.HERE_if-found-ne-FINE).room))
+put_field-requires c = simp (length-take, length-drop) (omega (arith, (known c.before).room))
 
 pub overflow_add-result : goal.overflow_add-result
-overflow_add-result c = omega (arith, (known c.HERE_if-found-ne-FINE).room, c.field_size.ensures)
+overflow_add-result c = omega (arith, (known c.before.before.before.before.before).room, c.field_size.ensures)
 
 pub returns : goal.returns
 returns c =
     let a = c.args in
     let w = written-fine _ _ _ (sym c.write_number-found.ensures ∙ c.if-found-ne-FINE.false) in (
       simp c.field_size.ensures (sym w.0),
-      put-part (field_bytes a.field) a.buffer.now _ a.at (omega (arith, (known none).room, field-length a.field)) c.put_field.ensures ∙ sym w.1,
+      put-part (field_bytes a.field) a.buffer.now _ a.at (omega (arith, (known c.before.before.before.before.before).room, field-length a.field)) c.put_field.ensures ∙ sym w.1,
     )

@@ -8,12 +8,10 @@ use Rattle.line_writer.proofs.put_header.Goals as goal
 pub returns : goal.returns
 unfolding line_text
 returns c =
-    let named = c.HERE_buf-3-1 in
-    let start = named.before.before.before.before.before.before.before.before.before in
-    let a = start.before.before.before.before.args in
+    let a = c.args in
     same_bytes (header-line a.metal a.marks a.form)
-    (then start.put.ensures
-    (then named.before.before.before.before.before.put-metal.ensures
-    (then named.put2.ensures
+    (then c.put-a.ensures
+    (then c.put_metal-b.ensures
+    (then c.put-c.ensures
     (then c.put_number-d.ensures
     (then c.put_form-e.ensures c.put.ensures)))))

@@ -10,18 +10,15 @@ use Rattle.list_lines.specs.Listing.{list_text}
 use Rattle.list_lines.specs.laws.Listing.{list_length}
 use Rattle.list.proofs.answers_text.Goals as goal
 
-priced : (c : tie.After-put-lines) → held c.put-lines.result ≡ Has [] ⊕ list_text (closed_says c.before.before.before.before.before.before.before.before.args.closed)
+priced : (c : goal.After-put_lines) → held c.put_lines.result ≡ Has [] ⊕ list_text (closed_says c.args.closed)
 unfolding list_text
 priced c =
-    let metal = c.HERE_put-arg-1 in
-    let closed = metal.before.before in
-    simp (c.put_lines.ensures, c.put.ensures.holds, metal.put-metal.ensures, closed.before.before.empty.ensures, empty_holds, closed.closed.given.1, ⊕-⊕, append_assoc)
+    simp (c.put_lines.ensures, c.put.ensures.holds, c.put_metal.ensures, c.empty-t.ensures, empty_holds, c.in-Six.is, ⊕-⊕, append_assoc)
 
-refused : (c : tie.After-put-refusal) → held c.put-refusal.result ≡ Has [] ⊕ list_text (closed_says c.before.before.before.before.before.args.closed)
+refused : (c : goal.After-put_refusal) → held c.put_refusal.result ≡ Has [] ⊕ list_text (closed_says c.args.closed)
 unfolding list_text
 refused c =
-    let closed = c.HERE_closed-in-Refused-1 in
-    simp (c.put_refusal.ensures, closed.before.before.empty.ensures, empty_holds, closed.closed2.given.1)
+    simp (c.put_refusal.ensures, c.empty-t.ensures, empty_holds, c.in-Refused.is)
 
 pub returns-in-Six : goal.returns-in-Six
 returns-in-Six c = priced c ∙ whole _ (list_length c.args.closed)

@@ -11,7 +11,7 @@ use Rattle.list_lines.specs.Listing.{line, list_text}
 use Rattle.list_lines.specs.laws.Listing.{too_long, listed}
 use Rattle.list.proofs.sheet_text.Goals as goal
 
-one_line : (c : tie.After-put2) → held c.put2.result ≡ Has [] ⊕ line (too_long_name ∷ [])
+one_line : (c : goal.After-put-then-sheet-gt-LONGEST) → held c.put-then-sheet-gt-LONGEST.result ≡ Has [] ⊕ line (too_long_name ∷ [])
 one_line c = simp (c.put-then-sheet-gt-LONGEST.ensures.holds, c.put.ensures.holds, c.empty.ensures, empty_holds, ⊕-⊕)
 
 pub returns-then-sheet-gt-LONGEST : goal.returns-then-sheet-gt-LONGEST

@@ -8,8 +8,4 @@ use Rattle.list_lines.proofs.put_lines.Goals as goal
 pub returns : goal.returns
 unfolding answer_lines
 returns c =
-    let m4 = c.HERE_put_line-t-4 in
-    let m2 = m4.before in
-    let m3 = m2.before in
-    let three = m3.before in
-    simp (c.put_line.ensures, c.put_line-t-5.ensures, m4.put-line4.ensures, m2.put-line3.ensures, m3.put-line2.ensures, three.put-line.ensures, ⊕-⊕, append_assoc, append-nil)
+    simp (c.put_line.ensures, c.put_line-t-5.ensures, c.put_line-t-4.ensures, c.put_line-t-3.ensures, c.put_line-t-2.ensures, c.put_line-t.ensures, ⊕-⊕, append_assoc, append-nil)

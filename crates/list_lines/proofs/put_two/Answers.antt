@@ -6,6 +6,4 @@ use Rattle.list_lines.proofs.put_two.Goals as goal
 
 pub returns : goal.returns
 returns c =
-    let space = c.HERE_number-2 in
-    let a = space.before.before in
-    simp (c.put-3.ensures.holds, c.number-2.ensures.holds, space.put2.ensures.holds, a.number.ensures.holds, a.before.put.ensures.holds, ⊕-⊕, append_assoc)
+    simp (c.put-3.ensures.holds, c.number-2.ensures.holds, c.put-2.ensures.holds, c.number.ensures.holds, c.put.ensures.holds, ⊕-⊕, append_assoc)

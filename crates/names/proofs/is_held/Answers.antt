@@ -6,11 +6,11 @@ use lib.Seq.{length-take-le}
 use borrow.Author.Rules.{rules}
 use Rattle.names.proofs.is_held.Goals as goal
 
-long : (c : tie.After-store) → length c.before.before.args.name.bytes ≡ 9
+long : (c : goal.After-store-1) → length c.args.name.bytes ≡ 9
 long c = search rules
 
 pub slice_bounds-store-end : goal.slice_bounds-store-end
 slice_bounds-store-end c = omega (arith, long c, c.requires)
 
 pub slice_bounds-is_name-end : goal.slice_bounds-is_name-end
-slice_bounds-is_name-end c = sym (length-take-le _ _ (omega (arith, long c.HERE_store-1, c.requires)))
+slice_bounds-is_name-end c = sym (length-take-le _ _ (omega (arith, long c.before, c.requires)))

@@ -9,7 +9,7 @@ use native.Mathlib.Nat.{mul-le-mul}
 use Prim.Native.Nat.{◌*◌}
 use Rattle.price_rules.proofs.apply.Goals as goal
 
-of : (c : tie.Start) → Known 1048575989514240000 (to_z w64 (c.args.times * c.args.close)) (pos (c.args.times * c.args.close))
+of : (c : goal.Start) → Known 1048575989514240000 (to_z w64 (c.args.times * c.args.close)) (pos (c.args.times * c.args.close))
 of c = cast-u tt (mul-le-mul c.requires.0 c.requires.1)
 
 pub overflow_mul-b : goal.overflow_mul-b
@@ -19,13 +19,13 @@ pub overflow_cast-b-2 : goal.overflow_cast-b-2
 overflow_cast-b-2 c = record { sfits = omega (arith, mul-le-mul c.requires.0 c.requires.1) }
 
 pub overflow_sub-result : goal.overflow_sub-result
-overflow_sub-result c = fits tt (minus (of c.HERE_) (param c.ranges.value c.requires.2))
+overflow_sub-result c = fits tt (minus (of c.before) (param c.ranges.value c.requires.2))
 
 pub overflow_add-result : goal.overflow_add-result
-overflow_add-result c = fits tt (plus (of c.HERE_) (param c.ranges.value c.requires.2))
+overflow_add-result c = fits tt (plus (of c.before) (param c.ranges.value c.requires.2))
 
 pub returns-then-less : goal.returns-then-less
-returns-then-less c = rw c.if-less.true (back tt (minus (of c.HERE_) (param c.ranges.value c.requires.2))).known
+returns-then-less c = rw c.if-less.true (back tt (minus (of c.before) (param c.ranges.value c.requires.2))).known
 
 pub returns-else-less : goal.returns-else-less
-returns-else-less c = rw c.if-less.false (back tt (plus (of c.HERE_) (param c.ranges.value c.requires.2))).known
+returns-else-less c = rw c.if-less.false (back tt (plus (of c.before) (param c.ranges.value c.requires.2))).known

@@ -13,8 +13,7 @@ loop-k-init c = (omega arith, refl, within_none)
 
 pub with_instrument-s-requires : goal.with_instrument-s-requires
 with_instrument-s-requires c =
-    let s = c.HERE_ in
-    (s.requires.0, s.requires.1, s.requires.2, within-up (omega arith) c.loop-k.invariant.2, omega arith)
+    (c.requires.0, c.requires.1, c.requires.2, within-up (omega arith) c.loop-k.invariant.2, omega arith)
 
 pub loop-k-preserved : goal.loop-k-preserved
 loop-k-preserved c =

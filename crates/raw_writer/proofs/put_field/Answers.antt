@@ -9,8 +9,5 @@ use Rattle.raw_writer.proofs.put_field.Goals as goal
 
 pub returns : goal.returns
 returns c =
-    let first = c.HERE_put_head in
-    let told = first.before.before in
-    let start = told.before.before in
-    let a = start.args in
-    put-behind (head_bytes (tag_of a.field)) (body_bytes a.field) a.part.now _ _ 3 refl (omega (arith, start.requires, body-length a.field)) (rw told.tag_of.ensures at first.put-head.ensures) c.put_body.ensures
+    let a = c.args in
+    put-behind (head_bytes (tag_of a.field)) (body_bytes a.field) a.part.now _ _ 3 refl (omega (arith, c.requires, body-length a.field)) (rw c.tag_of-tag.ensures at c.put_head.ensures) c.put_body.ensures

@@ -10,8 +10,5 @@ use Rattle.raw_writer.proofs.put_head.Goals as goal
 
 pub returns : goal.returns
 returns c =
-    let first = c.HERE_put1 in
-    let told = first.before.before in
-    let start = told.before.before in
-    let a = start.args in
-    put-behind (a.tag ∷ []) (bytes2 (length_of a.tag)) a.part.now _ _ 1 refl (omega arith) first.put1.ensures (rw told.length-of.ensures at c.put2.ensures)
+    let a = c.args in
+    put-behind (a.tag ∷ []) (bytes2 (length_of a.tag)) a.part.now _ _ 1 refl (omega arith) c.put1.ensures (rw c.length_of-len.ensures at c.put2.ensures)

@@ -11,9 +11,6 @@ use Rattle.raw_writer.proofs.put_header.Goals as goal
 pub returns : goal.returns
 unfolding body_bytes
 returns c =
-    let second = c.HERE_put2 in
-    let first = second.before.before.before.before in
-    let start = first.before.before.before in
-    let a = start.args in
-    let two = put-behind (a.metal ∷ []) (bytes2 a.marks) a.part.now _ _ 1 refl (omega arith) first.put1.ensures second.put2.ensures in
+    let a = c.args in
+    let two = put-behind (a.metal ∷ []) (bytes2 a.marks) a.part.now _ _ 1 refl (omega arith) c.put1.ensures c.put2.ensures in
     put-behind ((a.metal ∷ []) ++ bytes2 a.marks) (form_bytes a.form) a.part.now _ _ 3 refl (omega arith) two c.put_form.ensures

@@ -10,7 +10,5 @@ use Rattle.raw_writer.proofs.put_previous.Goals as goal
 pub returns : goal.returns
 unfolding body_bytes
 returns c =
-    let first = c.HERE_put1 in
-    let start = first.before.before.before in
-    let a = start.args in
-    put-behind (a.instrument ∷ []) (price_bytes a.price) a.part.now _ _ 1 refl (omega arith) first.put1.ensures c.put_price.ensures
+    let a = c.args in
+    put-behind (a.instrument ∷ []) (price_bytes a.price) a.part.now _ _ 1 refl (omega arith) c.put1.ensures c.put_price.ensures

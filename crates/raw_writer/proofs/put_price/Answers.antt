@@ -7,6 +7,5 @@ use Rattle.raw_writer.proofs.put_price.Goals as goal
 
 pub returns : goal.returns
 returns c =
-    let start = c.HERE_ in
-    let same : to_z w32 (of_z w32 start.args.price.cents) ≡ start.args.price.cents = search rules in
+    let same : to_z w32 (of_z w32 c.args.price.cents) ≡ c.args.price.cents = search rules in
     rw same at c.put_signed.ensures

@@ -11,7 +11,5 @@ use Rattle.raw_writer.proofs.put_quote.Goals as goal
 pub returns : goal.returns
 unfolding body_bytes
 returns c =
-    let first = c.HERE_put_stamp in
-    let start = first.before.before.before in
-    let a = start.args in
-    put-behind (bytes4 a.time ++ a.instrument ∷ []) (a.sides ∷ price_bytes a.bid ++ price_bytes a.offer) a.part.now _ _ 5 refl (omega arith) first.put-stamp.ensures c.put_sides.ensures
+    let a = c.args in
+    put-behind (bytes4 a.time ++ a.instrument ∷ []) (a.sides ∷ price_bytes a.bid ++ price_bytes a.offer) a.part.now _ _ 5 refl (omega arith) c.put_stamp.ensures c.put_sides.ensures

@@ -9,9 +9,6 @@ use Rattle.raw_writer.proofs.put_sides.Goals as goal
 
 pub returns : goal.returns
 returns c =
-    let second = c.HERE_put_price in
-    let first = second.before.before.before.before in
-    let start = first.before.before.before in
-    let a = start.args in
-    let two = put-behind (a.sides ∷ []) (price_bytes a.bid) a.part.now _ _ 1 refl (omega arith) first.put1.ensures second.put-price.ensures in
+    let a = c.args in
+    let two = put-behind (a.sides ∷ []) (price_bytes a.bid) a.part.now _ _ 1 refl (omega arith) c.put1.ensures c.put_price.ensures in
     put-behind ((a.sides ∷ []) ++ price_bytes a.bid) (price_bytes a.offer) a.part.now _ _ 5 refl (omega arith) two c.put_price-2.ensures

@@ -9,7 +9,5 @@ use Rattle.raw_writer.proofs.put_stamp.Goals as goal
 
 pub returns : goal.returns
 returns c =
-    let first = c.HERE_put4 in
-    let start = first.before.before.before in
-    let a = start.args in
-    put-behind (bytes4 a.time) (a.instrument ∷ []) a.part.now _ _ 4 refl (omega arith) first.put4.ensures c.put1.ensures
+    let a = c.args in
+    put-behind (bytes4 a.time) (a.instrument ∷ []) a.part.now _ _ 4 refl (omega arith) c.put4.ensures c.put1.ensures

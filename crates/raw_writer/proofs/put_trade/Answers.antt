@@ -11,9 +11,6 @@ use Rattle.raw_writer.proofs.put_trade.Goals as goal
 pub returns : goal.returns
 unfolding body_bytes
 returns c =
-    let second = c.HERE_put_price in
-    let first = second.before.before.before.before in
-    let start = first.before.before.before in
-    let a = start.args in
-    let two = put-behind (bytes4 a.time ++ a.instrument ∷ []) (price_bytes a.price) a.part.now _ _ 5 refl (omega arith) first.put-stamp.ensures second.put-price.ensures in
+    let a = c.args in
+    let two = put-behind (bytes4 a.time ++ a.instrument ∷ []) (price_bytes a.price) a.part.now _ _ 5 refl (omega arith) c.put_stamp.ensures c.put_price.ensures in
     put-behind ((bytes4 a.time ++ a.instrument ∷ []) ++ price_bytes a.price) (bytes2 a.lots) a.part.now _ _ 9 refl (omega arith) two c.put2.ensures

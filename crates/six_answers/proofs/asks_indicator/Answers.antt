@@ -15,5 +15,4 @@ lots_over-requires c =
 
 pub returns : goal.returns
 returns c =
-    let s = c.HERE_ in
-    asks-by _ _ s.args.c c.is_named.ensures c.if-is_named.false (row_of s.args.c c.contract_by-row.ensures s.requires.0) c.lots_over.ensures
+    asks-by _ _ c.args.c c.is_named.ensures c.if-is_named.false (row_of c.args.c c.contract_by-row.ensures c.requires.0) c.lots_over.ensures

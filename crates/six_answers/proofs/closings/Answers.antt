@@ -8,19 +8,19 @@ use Rattle.price_rules.specs.Closing.{six, answers_by, answers_of}
 use borrow.Author.Rules.{rules}
 use Rattle.six_answers.proofs.closings.Goals as goal
 
-accepted : (c : tie.After-judged) → judge_sheet c.before.before.before.before.args.sheet.now ≡ accepts c.judged.given.0.0
+accepted : (c : goal.In-Accepted-2) → judge_sheet c.args.sheet.now ≡ accepts c.in-Accepted.day
 accepted c = sym c.totals-traded.ensures.judged ∙ ap judged_says c.in-Accepted.is
 
 pub price_all-requires : goal.price_all-requires
 unfolding totals_by
 price_all-requires c =
-    let e = accepted k in
+    let e = accepted c.before.before.before in
     record { accepted = record { day = _; judged = e }; totals = c.totals-traded.ensures.totals ∙ rw e }
 
 pub returns-in-Accepted : goal.returns-in-Accepted
 unfolding answers_of
 returns-in-Accepted c =
-    rw (accepted k) (ap (six c.in-Accepted.day) (rw c.third_of.ensures at c.price_all.ensures))
+    rw (accepted c.before.before.before.before) (ap (six c.in-Accepted.day) (rw c.third_of.ensures at c.price_all.ensures))
 
 pub returns-in-Refused : goal.returns-in-Refused
 unfolding answers_of

@@ -5,5 +5,4 @@ use Rattle.six_answers.proofs.price_all.Goals as goal
 
 pub price_in_order-six-requires : goal.price_in_order-six-requires
 price_in_order-six-requires c =
-    let s = c.HERE_ in
-    ready-apart s.args.sheet.now s.args.book s.requires c.lots_of-lots.ensures c.values_of-values.ensures
+    ready-apart c.args.sheet.now c.args.book c.requires c.lots_of-lots.ensures c.values_of-values.ensures

@@ -33,19 +33,11 @@ bounds-sums-row c =
 
 pub price_one-a-requires : goal.price_one-a-requires
 price_one-a-requires c =
-    let l = c.HERE_loop-c in
-    let u = l.before in
-    let t = u.before.before.before in
-    let s = t.before.before.before in
-    (sum-lent _ _ _ _ _ _ s.requires u.before.some-ask.ensures _ u.sums-if.ensures _ (omega arith) (row k) t.before.contract-rows.ensures t.instrument-rows.ensures, stands-bounded _ l.loop.invariant, omega arith)
+    (sum-lent _ _ _ _ _ _ c.requires c.some_ask.ensures _ c.sums_if-sums.ensures _ (omega arith) (row c.before.before.before.before.before) c.contract_rows-rows.ensures c.instrument_rows-legs.ensures, stands-bounded _ c.loop-c.invariant, omega arith)
 
 pub loop-c-preserved : goal.loop-c-preserved
 loop-c-preserved c =
-    let k = c.HERE_contract_by-row in
-    let l = k.before.before.before.before in
-    let u = l.before in
-    let s = u.before.before.before.before.before.before in
-    stands-next _ l.loop.invariant _ (omega arith) (c.price_one-a.ensures ∙ step_of _ _ _ _ _ _ s.requires u.before.some-ask.ensures _ u.sums-if.ensures _ (omega arith) (row k) _) c.close_in.ensures c.is_refused-stopped.ensures
+    stands-next _ c.loop-c.invariant _ (omega arith) (c.price_one-a.ensures ∙ step_of _ _ _ _ _ _ c.requires c.some_ask.ensures _ c.sums_if-sums.ensures _ (omega arith) (row c.before.before.before.before.before.before.before.before) _) c.close_in.ensures c.is_refused-stopped.ensures
 
 pub returns : goal.returns
 returns c = stands-all _ c.loop-c.invariant (omega arith)

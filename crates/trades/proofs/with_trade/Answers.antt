@@ -10,21 +10,20 @@ use Rattle.trades.proofs.with_trade.Goals as goal
 abbrev cents : tie.After-struct-known → ℤ
 cents c = c.before.before.before.args.price.cents
 
-price-fits : (c : tie.After-struct-known) → SFits w32 (cents c)
+price-fits : (c : goal.After-struct_known-1) → SFits w32 (cents c)
 price-fits c = search rules
 
-value-fits : (c : tie.After-struct-known) → SFits w64 c.before.before.before.args.total.value
+value-fits : (c : goal.After-struct_known-1) → SFits w64 c.args.total.value
 value-fits c = search rules
 
-price : (c : tie.After-struct-known) → Known 2147483648 (to_z w32 (of_z w32 (cents c))) (cents c)
+price : (c : goal.After-struct_known-1) → Known 2147483648 (to_z w32 (of_z w32 (cents c))) (cents c)
 price c = param-i32 (price-fits c)
 
-product : (c : tie.After-struct-known) → let s = c.before.before.before in Known 140735340871680 (to_z w64 s.args.lots *ℤ to_z w64 (of_z w64 (to_z w32 (of_z w32 (cents c))))) (pos s.args.lots *ℤ cents c)
+product : (c : goal.After-struct_known-1) → Known 140735340871680 (to_z w64 c.args.lots *ℤ to_z w64 (of_z w64 (to_z w32 (of_z w32 (cents c))))) (pos c.args.lots *ℤ cents c)
 product c = times (cast-u16 c.ranges.lots) (back tt (price c))
 
-sum : (c : tie.After-struct-known) → let s = c.before.before.before in
-    Known 1048716724855111680 (to_z w64 (of_z w64 s.args.total.value) +ℤ to_z w64 (of_z w64 (to_z w64 s.args.lots *ℤ to_z w64 (of_z w64 (to_z w32 (of_z w32 (cents c))))))) (s.args.total.value +ℤ pos s.args.lots *ℤ cents c)
-sum c = let s = c.HERE_ in plus (param (value-fits c) s.requires.value) (back tt (product c))
+sum : (c : goal.After-struct_known-1) → Known 1048716724855111680 (to_z w64 (of_z w64 c.args.total.value) +ℤ to_z w64 (of_z w64 (to_z w64 c.args.lots *ℤ to_z w64 (of_z w64 (to_z w32 (of_z w32 (cents c))))))) (c.args.total.value +ℤ pos c.args.lots *ℤ cents c)
+sum c = plus (param (value-fits c) c.requires.value) (back tt (product c))
 
 pub overflow_cast-result-3 : goal.overflow_cast-result-3
 overflow_cast-result-3 c = fits tt (price c)

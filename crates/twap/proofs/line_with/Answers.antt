@@ -6,25 +6,21 @@ use borrow.Author.Rules.{rules}
 use Rattle.twap.specs.laws.Lines.{Inside, fair-total, fair-cut, told-before, told-now, line-built}
 use Rattle.twap.proofs.line_with.Goals as goal
 
-inside : (c : tie.After-cut-at) → let a = c.before.before.before.args in Inside a.line.since (a.start + 300000) c.cut_at.result
-inside c = let s = c.HERE_ in fair-cut s.args.start s.args.line s.requires.0 _ c.cut_at-to.ensures
+inside : (c : goal.After-cut_at-to) → let a = c.args in Inside a.line.since (a.start + 300000) c.cut_at-to.result
+inside c = fair-cut c.args.start c.args.line c.requires.0 _ c.cut_at-to.ensures
 
 pub overflow_sub-length : goal.overflow_sub-length
-overflow_sub-length c = (inside c.HERE_cut_at-to).from
+overflow_sub-length c = (inside c.before).from
 
 pub plus-total-requires : goal.plus-total-requires
-plus-total-requires c = (fair-total c.args.start c.args.line c.requires.0, omega (arith, (inside c.HERE_cut_at-to).most, c.requires.0.from))
+plus-total-requires c = (fair-total c.args.start c.args.line c.requires.0, omega (arith, (inside c.before.before).most, c.requires.0.from))
 
 pub returns-then-line : goal.returns-then-line
 returns-then-line c =
-    let u = c.HERE_cut_at-to in
-    let s = u.before.before.before in
-    let a = s.args in
-    line-built a.stamp.instrument a.start a.line a.field s.requires.2 u.before.take-field.ensures u.cut_at.ensures c.value.ensures c.plus-total.ensures (told-before _ c.if-line.true)
+    let a = c.args in
+    line-built a.stamp.instrument a.start a.line a.field c.requires.2 c.take_field-next.ensures c.cut_at-to.ensures c.value.ensures c.plus-total.ensures (told-before _ c.if-line.true)
 
 pub returns-else-line : goal.returns-else-line
 returns-else-line c =
-    let u = c.HERE_cut_at-to in
-    let s = u.before.before.before in
-    let a = s.args in
-    line-built a.stamp.instrument a.start a.line a.field s.requires.2 u.before.take-field.ensures u.cut_at.ensures c.value.ensures c.plus-total.ensures (told-now c.if-line.false c.tells_by-told.ensures)
+    let a = c.args in
+    line-built a.stamp.instrument a.start a.line a.field c.requires.2 c.take_field-next.ensures c.cut_at-to.ensures c.value.ensures c.plus-total.ensures (told-now c.if-line.false c.tells_by-told.ensures)

@@ -13,22 +13,21 @@ use Rattle.cents.specs.laws.Whole.{Known, fits, back, param-i32, cast-u, field, 
 use Rattle.twap.specs.laws.Lines.{with_span, nothing-absent}
 use Rattle.twap.proofs.plus.Goals as goal
 
-price : (c : tie.After-struct-told) → let p = c.before.before.before.side.given.0.0.cents in Known 2147483648 (to_z w32 (of_z w32 p)) p
+price : (c : goal.After-struct_told-1) → let p = c.in-At.price.cents in Known 2147483648 (to_z w32 (of_z w32 p)) p
 price c = param-i32 (record { sfits = omega arith })
 
-product : (c : tie.After-struct-told)
-    → let n = c.before.before.before.before.before.args.milliseconds in
-    let p = c.before.before.before.side.given.0.0.cents in
+product : (c : goal.After-struct_told-1)
+    → let n = c.args.milliseconds in
+    let p = c.in-At.price.cents in
     Known (300000 * 2147483648) (to_z w64 n *ℤ to_z w64 (of_z w64 (to_z w32 (of_z w32 p)))) (pos n *ℤ p)
 product c = times (cast-u tt c.requires.1) (back tt (price c))
 
-summed : (c : tie.After-struct-told2)
-    → let a = c.before.before.before.before.before.before.before.args in
-    let p = c.before.before.before.before.before.side.given.0.0.cents in
+summed : (c : goal.After-struct_told-in-At-1)
+    → let a = c.args in
+    let p = c.in-At.price.cents in
     Known (300000 * 99999999 + 300000 * 2147483648) (to_z w64 (of_z w64 a.total.cents) +ℤ to_z w64 (of_z w64 (to_z w64 a.milliseconds *ℤ to_z w64 (of_z w64 (to_z w32 (of_z w32 p)))))) (a.total.cents +ℤ pos a.milliseconds *ℤ p)
 summed c =
-    let a = c.HERE_ in
-    plus (field a.args.total.cents (omega arith) a.requires.0) (back tt (product c.HERE_struct_told-1))
+    plus (field c.args.total.cents (omega arith) c.requires.0) (back tt (product c.before.before))
 
 pub overflow_cast-result-in-At : goal.overflow_cast-result-in-At
 overflow_cast-result-in-At c = fits tt (price c)

@@ -5,6 +5,5 @@ use Rattle.field.proofs.judge.both_sides_right.Goals as goal
 
 pub returns : goal.returns
 returns c =
-    let high = c.HERE_both-upward in
     c.both-2.ensures
-    ∙ rw (c.both.ensures, c.at_most-3.ensures, c.lowest.ensures, high.both.ensures, high.before.at-most2.ensures, high.before.before.highest.ensures, high.before.before.before.at_most.ensures)
+    ∙ rw (c.both.ensures, c.at_most-3.ensures, c.lowest.ensures, c.both-upward.ensures, c.at_most-2.ensures, c.highest.ensures, c.at_most.ensures)

@@ -7,7 +7,6 @@ use Rattle.field.proofs.judge.in_order.Goals as goal
 
 pub returns : goal.returns
 returns c =
-    let start = c.HERE_ in
-    let bid : to_z w32 (of_z w32 start.args.bid.cents) ≡ start.args.bid.cents = search rules in
-    let offer : to_z w32 (of_z w32 start.args.offer.cents) ≡ start.args.offer.cents = search rules in
+    let bid : to_z w32 (of_z w32 c.args.bid.cents) ≡ c.args.bid.cents = search rules in
+    let offer : to_z w32 (of_z w32 c.args.offer.cents) ≡ c.args.offer.cents = search rules in
     simp (c.pick.ensures, bid, offer, c.both.ensures, c.has_offer.ensures, c.has_bid.ensures)
