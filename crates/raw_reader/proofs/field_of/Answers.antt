@@ -23,7 +23,7 @@ end_of-requires c = c.requires.1 ∙ ap length_of c.in-5.is
 
 pub long_header_of-requires : goal.long_header_of-requires
 long_header_of-requires c =
-    let last : c.args.tag ≡ 6 = omega (arith, within-true 1 6 c.args.tag c.requires.0, c.in_default.rest.1, c.in_default.rest.0.1, c.in_default.rest.0.0.1, c.in_default.rest.0.0.0.1, c.in_default.rest.0.0.0.0.1) in
+    let last : c.args.tag ≡ 6 = omega (arith, within-true 1 6 c.args.tag c.requires.0, c.in_default.in_default-own.rest.1, c.in_default.in_default-own.rest.0.1, c.in_default.in_default-own.rest.0.0.1, c.in_default.in_default-own.rest.0.0.0.1, c.in_default.in_default-own.rest.0.0.0.0.1) in
     c.requires.1 ∙ ap length_of last
 
 pub returns-in-1 : goal.returns-in-1
@@ -49,5 +49,5 @@ returns-in-5 c = simp (c.end_of.ensures, c.in-5.is)
 pub returns-in_default : goal.returns-in_default
 unfolding field_of
 returns-in_default c =
-    let other = c.in_default.rest in
+    let other = c.in_default.in_default-own.rest in
     simp (c.long_header_of.ensures, ne_eqb _ 5 other.1, ne_eqb _ 4 other.0.1, ne_eqb _ 3 other.0.0.1, ne_eqb _ 2 other.0.0.0.1, ne_eqb _ 1 other.0.0.0.0.1)
