@@ -10,7 +10,8 @@ use mathlib.Core.List.{List, []}
 use lib.ListN.{length, take, drop}
 use borrow.Fn.Kinds.{ended_of}
 use contract.Lifetimes.{Lfts}
-use denote.Ref.{Bor}
+use denote.Bor.{Bor}
+use denote.MutBor.{MutBor}
 use denote.Triple.Clauses.{AtExit}
 use Rattle.wire.specs.Big.{Bytes}
 use Rattle.field.specs.declared.Field.{Field}
@@ -36,7 +37,7 @@ use Rattle.trips.specs.laws.Around as around
 -- `write_field`, lent a buffer that holds b, may answer x and leave the bytes `after`
 pub record Writes (b : List ℕ) (at : ℕ) (f : Field) (x : Written) (after : List ℕ) : Type 0 where
   pub κs : Lfts 1
-  pub buffer : Bor (List ℕ)
+  pub buffer : MutBor (List ℕ)
   pub exit : AtExit (ended_of 1 write-fieldK.ps write-fieldK.r) κs
   pub permits : write-field.Post κs (buffer, (at, (f, tt))) x exit
   pub holds : buffer.now ≡ b
