@@ -1,5 +1,5 @@
 -- TAPE 1: a text cut at its line feeds, a line cut at its commas: the pieces between two bytes `stop`.
-use Rattle.std.specs.Prelude.{ℕ, ◌+◌, Bool, true, cond, List, [], ◌∷◌, ◌++◌, eqb, length, drop}
+use Rattle.std.specs.Prelude.{ℕ, ◌+◌, cond, List, [], ◌∷◌, ◌++◌, eqb, length, drop}
 
 -- the bytes before the first stop, all where there is none
 unfoldable pub first : ℕ → List ℕ → List ℕ

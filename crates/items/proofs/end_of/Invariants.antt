@@ -1,8 +1,7 @@
--- `items::end_of` meets its contract: each need is a law of the walk. Assumes nothing.
+-- What holds as `items::end_of` looks for the stop, and that it ends. Assumes nothing.
 use Prim.Native.Nat.{◌-◌}
 use lib.ListN.{length}
-use borrow.Author.Rules.{rules}
-use Rattle.items.specs.laws.Walk.{Looking, at-start, at-stop, at_next, at-end}
+use Rattle.items.specs.laws.Walk.{Looking}
 use Rattle.items.proofs.end_of.Given as goal
 
 abbrev pub invariant-loop-i : goal.invariant-loop-i

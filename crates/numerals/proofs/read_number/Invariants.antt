@@ -1,8 +1,7 @@
--- `numerals::read_number` meets its contract. Assumes nothing.
+-- What holds as `numerals::read_number` walks the digits, and that it ends. Assumes nothing.
 use Prim.Native.Nat.{◌-◌}
 use lib.ListN.{length}
-use borrow.Author.Rules.{rules}
-use Rattle.numerals.specs.laws.Walk.{OnDigits, shut, at-start, at-bad, at_next, at-end}
+use Rattle.numerals.specs.laws.Walk.{OnDigits}
 use Rattle.numerals.proofs.read_number.Given as goal
 
 abbrev pub invariant-loop-i : goal.invariant-loop-i

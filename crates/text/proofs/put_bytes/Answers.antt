@@ -1,6 +1,5 @@
 -- `text::put_bytes` meets its contract. Assumes nothing.
 use native.Mathlib.Omega.{arith}
-use borrow.Author.Rules.{rules}
 use Rattle.text.proofs.Puts.{room, no_room}
 use Rattle.text.proofs.put_bytes.Goals as goal
 
