@@ -297,11 +297,12 @@ module _ (i t : ℕ) where
   book-from s (Header metal marks form ∷ fs) = ap book_of (due i t s (Header metal marks form) fs (omega arith)) ∙ book-from s fs
   book-from s (PreviousClose instrument price ∷ fs) =
       let b = book-stays (leb 0 t) (eqb instrument i) (after_close s price) s refl in
-      book-from _ fs ∙ ap (λ (before : Book). book_by before (latest_quote i t fs)) b
+      book-from (cond (leb 0 t) (cond (eqb instrument i) (after_close s price) s) s) fs ∙ ap (λ (before : Book). book_by before (latest_quote i t fs)) b
   book-from s (Trade time instrument price lots ∷ fs) =
       let b = book-stays (leb time t) (eqb instrument i) (after_trade s price) s refl in
-      book-from _ fs ∙ ap (λ (before : Book). book_by before (latest_quote i t fs)) b
-  book-from s (Quote time instrument sides bid offer ∷ fs) = book-from _ fs ∙ book-quoted (leb time t) (eqb instrument i) s sides bid offer (latest_quote i t fs)
+      book-from (cond (leb time t) (cond (eqb instrument i) (after_trade s price) s) s) fs ∙ ap (λ (before : Book). book_by before (latest_quote i t fs)) b
+  book-from s (Quote time instrument sides bid offer ∷ fs) =
+      book-from (cond (leb time t) (cond (eqb instrument i) (after_quote s sides bid offer) s) s) fs ∙ book-quoted (leb time t) (eqb instrument i) s sides bid offer (latest_quote i t fs)
   book-from s (End count ∷ fs) = ap book_of (due i t s (End count) fs (omega arith)) ∙ book-from s fs
 
   -- the book is the latest quote record's, whatever its time of day, and empty where there is none

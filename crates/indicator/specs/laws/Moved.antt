@@ -172,17 +172,17 @@ module _ (i t : ℕ) where
   fair-from : (s : Indicator) (fs : List Field) → Fair fs → Uncrossed s.bid s.offer → Uncrossed (after_from i t s fs).bid (after_from i t s fs).offer
   unfolding after_from taken
   fair-from s [] f h = h
-  fair-from s (Header metal marks form ∷ fs) f h = fair-from _ fs f (fair-choice (leb 0 t) s s h h)
+  fair-from s (Header metal marks form ∷ fs) f h = fair-from (cond (leb 0 t) s s) fs f (fair-choice (leb 0 t) s s h h)
   fair-from s (PreviousClose instrument price ∷ fs) f h =
       let new = after_close s price in
-      fair-from _ fs f (fair-choice (leb 0 t) (cond (eqb instrument i) new s) s (fair-choice (eqb instrument i) new s h h) h)
+      fair-from (cond (leb 0 t) (cond (eqb instrument i) new s) s) fs f (fair-choice (leb 0 t) (cond (eqb instrument i) new s) s (fair-choice (eqb instrument i) new s h h) h)
   fair-from s (Trade time instrument price lots ∷ fs) f h =
       let new = after_trade s price in
-      fair-from _ fs f (fair-choice (leb time t) (cond (eqb instrument i) new s) s (fair-choice (eqb instrument i) new s h h) h)
+      fair-from (cond (leb time t) (cond (eqb instrument i) new s) s) fs f (fair-choice (leb time t) (cond (eqb instrument i) new s) s (fair-choice (eqb instrument i) new s h h) h)
   fair-from s (Quote time instrument sides bid offer ∷ fs) f h =
       let new = after_quote s sides bid offer in
-      fair-from _ fs f.1 (fair-choice (leb time t) (cond (eqb instrument i) new s) s (fair-choice (eqb instrument i) new s (fair-sides sides bid offer f.0) h) h)
-  fair-from s (End count ∷ fs) f h = fair-from _ fs f (fair-choice (leb 0 t) s s h h)
+      fair-from (cond (leb time t) (cond (eqb instrument i) new s) s) fs f.1 (fair-choice (leb time t) (cond (eqb instrument i) new s) s (fair-choice (eqb instrument i) new s (fair-sides sides bid offer f.0) h) h)
+  fair-from s (End count ∷ fs) f h = fair-from (cond (leb 0 t) s s) fs f (fair-choice (leb 0 t) s s h h)
 
   pub fair-book : (fs : List Field) → Fair fs → Uncrossed (after i t fs).bid (after i t fs).offer
   fair-book fs f = fair-from empty fs f tt

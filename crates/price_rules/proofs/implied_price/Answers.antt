@@ -13,6 +13,6 @@ apply-requires c =
 
 pub returns : goal.returns
 returns c =
-    same_at w64 c.apply.result c.apply.type-inv
+    same_at w64 c.apply.result c.apply.type_inv
     ∙ c.apply.ensures
     ∙ rw (c.less.ensures, c.other_close-close.ensures, to_z-of_z c.ranges.value)

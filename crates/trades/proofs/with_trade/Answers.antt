@@ -7,22 +7,19 @@ use mir.Val.{SFits, to_z, of_z}
 use Rattle.cents.specs.laws.Whole.{Known, fits, back, plus, times, cast-u16, param, param-i32}
 use Rattle.trades.proofs.with_trade.Goals as goal
 
-abbrev cents : tie.After-struct-known → ℤ
-cents c = c.before.before.before.args.price.cents
-
-price-fits : (c : goal.After-struct_known-1) → SFits w32 (cents c)
+price-fits : (c : goal.After-struct_known-1) → SFits w32 c.args.price.cents
 price-fits c = search rules
 
 value-fits : (c : goal.After-struct_known-1) → SFits w64 c.args.total.value
 value-fits c = search rules
 
-price : (c : goal.After-struct_known-1) → Known 2147483648 (to_z w32 (of_z w32 (cents c))) (cents c)
+price : (c : goal.After-struct_known-1) → Known 2147483648 (to_z w32 (of_z w32 c.args.price.cents)) c.args.price.cents
 price c = param-i32 (price-fits c)
 
-product : (c : goal.After-struct_known-1) → Known 140735340871680 (to_z w64 c.args.lots *ℤ to_z w64 (of_z w64 (to_z w32 (of_z w32 (cents c))))) (pos c.args.lots *ℤ cents c)
+product : (c : goal.After-struct_known-1) → Known 140735340871680 (to_z w64 c.args.lots *ℤ to_z w64 (of_z w64 (to_z w32 (of_z w32 c.args.price.cents)))) (pos c.args.lots *ℤ c.args.price.cents)
 product c = times (cast-u16 c.ranges.lots) (back tt (price c))
 
-sum : (c : goal.After-struct_known-1) → Known 1048716724855111680 (to_z w64 (of_z w64 c.args.total.value) +ℤ to_z w64 (of_z w64 (to_z w64 c.args.lots *ℤ to_z w64 (of_z w64 (to_z w32 (of_z w32 (cents c))))))) (c.args.total.value +ℤ pos c.args.lots *ℤ cents c)
+sum : (c : goal.After-struct_known-1) → Known 1048716724855111680 (to_z w64 (of_z w64 c.args.total.value) +ℤ to_z w64 (of_z w64 (to_z w64 c.args.lots *ℤ to_z w64 (of_z w64 (to_z w32 (of_z w32 c.args.price.cents)))))) (c.args.total.value +ℤ pos c.args.lots *ℤ c.args.price.cents)
 sum c = plus (param (value-fits c) c.requires.value) (back tt (product c))
 
 pub overflow_cast-result-3 : goal.overflow_cast-result-3

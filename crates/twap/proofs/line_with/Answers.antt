@@ -6,14 +6,11 @@ use borrow.Author.Rules.{rules}
 use Rattle.twap.specs.laws.Lines.{Inside, fair-total, fair-cut, told-before, told-now, line-built}
 use Rattle.twap.proofs.line_with.Goals as goal
 
-inside : (c : goal.After-cut_at-to) → let a = c.args in Inside a.line.since (a.start + 300000) c.cut_at-to.result
-inside c = fair-cut c.args.start c.args.line c.requires.0 _ c.cut_at-to.ensures
-
 pub overflow_sub-length : goal.overflow_sub-length
-overflow_sub-length c = (inside c.before).from
+overflow_sub-length c = (fair-cut c.args.start c.args.line c.requires.0 _ c.cut_at-to.ensures).from
 
 pub plus-total-requires : goal.plus-total-requires
-plus-total-requires c = (fair-total c.args.start c.args.line c.requires.0, omega (arith, (inside c.before.before).most, c.requires.0.from))
+plus-total-requires c = (fair-total c.args.start c.args.line c.requires.0, omega (arith, (fair-cut c.args.start c.args.line c.requires.0 _ c.cut_at-to.ensures).most, c.requires.0.from))
 
 pub returns-then-line : goal.returns-then-line
 returns-then-line c =

@@ -6,6 +6,7 @@ use borrow.Author.Rules.{rules}
 use Rattle.sheet.specs.laws.Walk.{left}
 use Rattle.twap.specs.laws.Pass.{Passing, pass-start, start_small, pass-done, pass-fair, pass-headed, pass-inside, pass_fits, pass-own, pass-none}
 use Rattle.twap.proofs.lines_of.Goals as goal
+use Rattle.twap.proofs.lines_of.Goals.{then-i-lt12, else-i-lt12}
 
 ruleset passing = (pass-start, start_small, pass-done, pass-fair, pass-headed, pass-inside, pass_fits, rules)
 
@@ -61,10 +62,10 @@ pub loop-at-preserved : goal.loop-at-preserved
 loop-at-preserved c =
     let o = c.loop-at.invariant in
     let row = c.metal_of-row.ensures in
-    ⊎_elim
-    (λ w. rw w.4 (pass-own _ _ _ _ o (omega arith) refl c.field_here-field.ensures c.stamp_of-stamp.ensures c.bytes_of-at.ensures w.0.taken row w.2.ensures w.3.ensures))
-    (λ w. rw w.1 (pass-none _ _ _ _ o (omega arith) refl c.field_here-field.ensures c.stamp_of-stamp.ensures c.bytes_of-at.ensures w.0.left))
-    c.if-i-lt12.branch
+    elim c.if-i-lt12.branch [
+      | then-i-lt12 w ↦ rw w.lines-is (pass-own _ _ _ _ o (omega arith) refl c.field_here-field.ensures c.stamp_of-stamp.ensures c.bytes_of-at.ensures w.if-i-lt12.true row w.start_in.ensures w.line_with.ensures)
+      | else-i-lt12 w ↦ rw w.lines-is (pass-none _ _ _ _ o (omega arith) refl c.field_here-field.ensures c.stamp_of-stamp.ensures c.bytes_of-at.ensures w.if-i-lt12.false)
+    ]
 
 pub returns : goal.returns
 returns c = search passing
