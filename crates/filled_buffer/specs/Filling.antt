@@ -4,7 +4,6 @@ use Rattle.text.specs.Over.{over}
 use Rattle.sheet.specs.declared.Day.{Day}
 use Rattle.sheet.specs.Judgement.{Verdict, accepts, refuses-at}
 use Rattle.filled_buffer.specs.declared.Filled.{Filled}
-use Rattle.filled_buffer.specs.declared.Filled.TheVariants as Filled
 
 -- bytes; or no, with a number of the table and a place
 pub data Made : Type 0 where

@@ -13,7 +13,6 @@ use Rattle.sheet.specs.declared.Judged.{Judged}
 use Rattle.sheet.specs.declared.Judged.TheVariants as J
 use Rattle.sheet.specs.Judgement.{Verdict, accepts, refuses-at, judged_says}
 use Rattle.filled_buffer.specs.declared.Filled.{Filled}
-use Rattle.filled_buffer.specs.declared.Filled.TheVariants as Filled
 use Rattle.filled_buffer.specs.Filling.{Made, made, refused, of_sheet, within_limit, in_room, buffer_with, filled}
 
 -- bytes that are made are no refusal

@@ -1,7 +1,6 @@
 -- `header_mover::header_size` meets its contract. Assumes nothing.
 use mathlib.Core.Path.{ap, ◌∙◌}
 use Rattle.field.specs.Layout.{size_of}
-use borrow.Author.Rules.{rules}
 use Rattle.header_mover.proofs.header_size.Goals as goal
 
 pub returns : goal.returns

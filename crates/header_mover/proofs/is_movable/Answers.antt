@@ -1,5 +1,4 @@
 -- `header_mover::is_movable` meets its contract: by the tag, then by the third value. Assumes nothing.
-use borrow.Author.Rules.{rules}
 use Rattle.header_mover.specs.laws.Moving.{tag_same, tag-other}
 use Rattle.header_mover.proofs.is_movable.Goals as goal
 

@@ -1,7 +1,6 @@
 -- `header_mover::move_number` meets its contract: the first number of the three. Assumes nothing.
 use mathlib.Core.Path.{ap₂, ◌∙◌}
 use Rattle.field.specs.Judging.{also}
-use borrow.Author.Rules.{rules}
 use Rattle.header_mover.proofs.move_number.Goals as goal
 
 pub returns : goal.returns

@@ -1,5 +1,4 @@
 -- `header_mover::move_to` meets its contract: the sheet's own refusal, or what is made of an accepted one. Assumes nothing.
-use borrow.Author.Rules.{rules}
 use Rattle.sheet.specs.Fields.{fields_of}
 use Rattle.filled_buffer.specs.laws.Filling.{judged-made, judged-refused}
 use Rattle.header_mover.specs.Moving.{moved_of}
@@ -9,7 +8,7 @@ use Rattle.header_mover.proofs.move_to.Goals as goal
 pub move_accepted-requires : goal.move_accepted-requires
 move_accepted-requires c =
     let a = c.args in
-    judged-accepted a.sheet.now c.judge_sheet.ensures (λ i. (c.shared_slice_known-1.given i).fits) c.in-Accepted.is
+    judged-accepted a.sheet.now c.judge_sheet.ensures (λ i. (c.type_inv.sheet i).fits) c.in-Accepted.is
 
 pub returns-in-Accepted : goal.returns-in-Accepted
 returns-in-Accepted c =

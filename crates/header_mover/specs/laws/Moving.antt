@@ -28,7 +28,6 @@ use Rattle.sheet.specs.Judgement.{accepts, judge_sheet, judged_says}
 use Rattle.sheet.specs.laws.Accepted.{accepted-header, accepted-small}
 use Rattle.sheet.specs.laws.Encoding.{accepted-encodes}
 use Rattle.filled_buffer.specs.declared.Filled.{Filled}
-use Rattle.filled_buffer.specs.declared.Filled.TheVariants as Filled
 use Rattle.filled_buffer.specs.Filling.{made, refused, within_limit, in_room}
 use Rattle.filled_buffer.specs.laws.Filling.{Answers, answers}
 use Rattle.header_mover.specs.Moving.{with_form, moved_bytes, movable, moved_of}

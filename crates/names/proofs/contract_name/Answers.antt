@@ -30,4 +30,4 @@ unfolding contract_name
 returns-in-5 c = c.named-in-5.ensures ∙ simp c.in-5.is
 
 pub returns-in_default : goal.returns-in_default
-returns-in_default c = c.named-in_default.ensures ∙ ap in_name (contract-none _ c.in_default.rest)
+returns-in_default c = c.named-in_default.ensures ∙ ap in_name (contract-none _ (search rules))

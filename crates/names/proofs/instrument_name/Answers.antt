@@ -54,4 +54,4 @@ unfolding instrument_name
 returns-in-11 c = c.named-in-11.ensures ∙ simp c.in-11.is
 
 pub returns-in_default : goal.returns-in_default
-returns-in_default c = c.named-in_default.ensures ∙ ap in_name (instrument-none _ c.in_default.rest)
+returns-in_default c = c.named-in_default.ensures ∙ ap in_name (instrument-none _ (search rules))

@@ -1,9 +1,8 @@
 -- `names::metal_in` meets its contract: name after name. Assumes nothing.
-use Prim.Native.Nat.{◌-◌}
 use native.Mathlib.Omega.{arith}
 use borrow.Author.Rules.{rules}
 use Rattle.names.specs.Names.{metal_names, metal_name, metal_in}
-use Rattle.names.specs.laws.Finding.{Seeking, seek-metal, metal-short, seek-start, seek-none, turn-found, turn-next}
+use Rattle.names.specs.laws.Finding.{seek-metal, metal-short, seek-start, seek-none, turn-found, turn-next}
 use Rattle.names.proofs.metal_in.Goals as goal
 
 ruleset seeking = (seek-start, metal-short, rules)

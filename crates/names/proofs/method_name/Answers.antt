@@ -1,6 +1,5 @@
 -- `names::method_name` meets its contract. Assumes nothing.
 use mathlib.Core.Path.{◌∙◌}
-use borrow.Author.Rules.{rules}
 use Rattle.names.proofs.method_name.Goals as goal
 
 pub returns-in-Vwap : goal.returns-in-Vwap

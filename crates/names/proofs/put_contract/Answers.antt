@@ -1,7 +1,6 @@
 -- `names::put_contract` meets its contract. Assumes nothing.
 use mathlib.Core.Path.{ap, ◌∙◌}
 use native.Mathlib.Omega.{arith}
-use borrow.Author.Rules.{rules}
 use Rattle.text.specs.Held.{held, ◌⊕◌}
 use Rattle.names.specs.Names.{contract_name}
 use Rattle.names.specs.laws.Names.{contract-length, name-short, name-bytes}

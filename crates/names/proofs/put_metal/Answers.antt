@@ -1,7 +1,6 @@
 -- `names::put_metal` meets its contract. Assumes nothing.
 use mathlib.Core.Path.{ap, ◌∙◌}
 use native.Mathlib.Omega.{arith}
-use borrow.Author.Rules.{rules}
 use Rattle.text.specs.Held.{held, ◌⊕◌}
 use Rattle.names.specs.Names.{metal_name}
 use Rattle.names.specs.laws.Names.{metal-length, name-short, name-bytes}

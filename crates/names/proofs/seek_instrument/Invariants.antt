@@ -1,9 +1,7 @@
 -- `names::seek_instrument` meets its contract: name after name. Assumes nothing.
 use Prim.Native.Nat.{◌-◌}
-use native.Mathlib.Omega.{arith}
-use borrow.Author.Rules.{rules}
-use Rattle.names.specs.Names.{instrument_names, instrument_name, instrument_in}
-use Rattle.names.specs.laws.Finding.{Seeking, seek-instrument, instrument-short, seek-start, seek-none, turn-found, turn-next}
+use Rattle.names.specs.Names.{instrument_names}
+use Rattle.names.specs.laws.Finding.{Seeking}
 use Rattle.names.proofs.seek_instrument.Given as goal
 
 abbrev pub invariant-loop-instrument : goal.invariant-loop-instrument

@@ -10,7 +10,7 @@ use Rattle.tape_writer.proofs.sheet_to_tape.Goals as goal
 pub put_text-requires : goal.put_text-requires
 put_text-requires c =
     let a = c.args in
-    sheet-readable a.sheet.now c.judge_sheet.ensures (λ i. (c.shared_slice_known-1.given i).fits) c.in-Accepted.is
+    sheet-readable a.sheet.now c.judge_sheet.ensures (λ i. (c.type_inv.sheet i).fits) c.in-Accepted.is
 
 pub returns-in-Accepted : goal.returns-in-Accepted
 returns-in-Accepted c =
