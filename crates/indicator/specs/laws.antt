@@ -1,6 +1,3 @@
 pub mod Indicator
 pub mod Sums
-pub mod Spans
 pub mod Changed
-pub mod Moved
-pub mod Examples

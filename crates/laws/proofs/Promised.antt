@@ -30,9 +30,9 @@ use Rattle.six_answers.proofs.closings.Kinds as closingsK
 use Rattle.field.specs.Judging.{third_of}
 use Rattle.market.specs.Market.{3M, named}
 use Rattle.laws.specs.Demand.{steps, lifted, Liftable, answer_at, Moves, turned, turned_day}
-use Rattle.laws.specs.laws.Lift.{shifts}
-use Rattle.laws.specs.laws.Turning.{turns}
-use Rattle.laws.specs.laws.Named.{named-agrees}
+use Rattle.laws.proofs.Lift.{shifts}
+use Rattle.laws.proofs.Turning.{turns}
+use Rattle.laws.proofs.Named.{named-agrees}
 
 -- `closings`, lent a sheet that holds s, may answer x
 pub record Closes (s : List ℕ) (x : Closed) : Type 0 where

@@ -1,3 +1,2 @@
 pub mod Trades
 pub mod Pass
-pub mod Rowed

@@ -14,7 +14,7 @@ use Rattle.field.specs.declared.Price.{Price}
 use Rattle.field.specs.Judging.{fine, also, alone, judge}
 use Rattle.field.specs.Layout.{form_tag, tag_of}
 use Rattle.field.specs.laws.Field.{clash, unless-fine, unless-passed, unless-all, also-fine, also-all, judge-all, both_true}
-use Rattle.field.specs.laws.Sound.{Sound, sound, sound-alone}
+use Rattle.field.proofs.Sound.{Sound, sound, sound-alone}
 use Rattle.admit.specs.declared.Progress.{Progress}
 
 abbrev admit-of : Step → Admitted

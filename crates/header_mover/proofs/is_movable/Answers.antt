@@ -1,5 +1,5 @@
 -- `header_mover::is_movable` meets its contract: by the tag, then by the third value. Assumes nothing.
-use Rattle.header_mover.specs.laws.Moving.{tag_same, tag-other}
+use Rattle.header_mover.proofs.Moving.{tag_same, tag-other}
 use Rattle.header_mover.proofs.is_movable.Goals as goal
 
 pub returns-then-form_tag : goal.returns-then-form_tag

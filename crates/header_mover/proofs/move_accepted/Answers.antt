@@ -1,6 +1,6 @@
 -- `header_mover::move_accepted` meets its contract: a number that was found, or the moved sheet. Assumes nothing.
 use borrow.Author.Rules.{rules}
-use Rattle.header_mover.specs.laws.Moving.{header-starts, moved-most, move-refused, move-fitting, move-whole}
+use Rattle.header_mover.proofs.Moving.{header-starts, moved-most, move-refused, move-fitting, move-whole}
 use Rattle.header_mover.proofs.move_accepted.Goals as goal
 
 pub overflow_sub-len : goal.overflow_sub-len

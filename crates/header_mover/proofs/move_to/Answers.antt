@@ -2,7 +2,7 @@
 use Rattle.sheet.specs.Fields.{fields_of}
 use Rattle.filled_buffer.specs.laws.Filling.{judged-made, judged-refused}
 use Rattle.header_mover.specs.Moving.{moved_of}
-use Rattle.header_mover.specs.laws.Moving.{judged-accepted}
+use Rattle.header_mover.proofs.Moving.{judged-accepted}
 use Rattle.header_mover.proofs.move_to.Goals as goal
 
 pub move_accepted-requires : goal.move_accepted-requires

@@ -1,6 +1,6 @@
 -- `header_mover::put_moved` meets its contract: the header, then the bytes behind the sheet's own. Assumes nothing.
 use borrow.Author.Rules.{rules}
-use Rattle.header_mover.specs.laws.Moving.{header-fits, header-starts, moved-put}
+use Rattle.header_mover.proofs.Moving.{header-fits, header-starts, moved-put}
 use Rattle.header_mover.proofs.put_moved.Goals as goal
 
 pub put_field-requires : goal.put_field-requires

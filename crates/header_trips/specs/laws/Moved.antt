@@ -23,11 +23,12 @@ use Rattle.price_rules.specs.Closing.{figures_of, deals_sum, twap_by, closings_o
 use Rattle.laws.specs.laws.Kept.{AsBefore, Stays, Right, same-stays, headed-accepted}
 use Rattle.laws.specs.laws.Figures.{trades-header, span-header}
 use Rattle.laws.specs.laws.Turn.{Alike, alike}
-use Rattle.laws.specs.laws.Lift.{answers-are}
+use Rattle.laws.proofs.Lift.{answers-are}
 use Rattle.filled_buffer.specs.Filling.{made, refused, of_sheet, within_limit}
 use Rattle.filled_buffer.specs.laws.Filling.{sheet-made, limit-made, room-made, made-room}
 use Rattle.header_mover.specs.Moving.{with_form, moved_bytes, movable, moved_of, moved}
-use Rattle.header_mover.specs.laws.Moving.{later_same, rest-same, Accepted, header_size, header-inside, moved-long}
+use Rattle.header_mover.specs.laws.Moving.{Accepted, header_size}
+use Rattle.header_mover.proofs.Moving.{later_same, rest-same, header-inside, moved-long}
 use Rattle.header_trips.specs.Moves.{day_in, KeepsLaw, NewAndBack, OldAndBack, LongerLaw}
 
 -- ---- which forms

@@ -29,7 +29,8 @@ use Rattle.sheet.specs.Judgement.{accepts, refuses-at, judge_reads, judge_sheet}
 use Rattle.sheet.specs.laws.Walk.{shape-past}
 use Rattle.sheet.specs.laws.Led.{Stood, here, then}
 use Rattle.sheet.specs.laws.Accepted.{accepted-header, accepted-stood, accepted-small}
-use Rattle.header_mover.specs.laws.Moving.{Accepted, header_size, rest_of, sheet-is, header-inside}
+use Rattle.header_mover.specs.laws.Moving.{Accepted, header_size}
+use Rattle.header_mover.proofs.Moving.{rest_of, sheet-is, header-inside}
 use Rattle.header_trips.specs.Moves.{day_in, old_shape_at, old_reads_from, judge_old, ReadLaw, UnreadLaw}
 use Rattle.header_trips.specs.laws.Moved.{moves, again}
 

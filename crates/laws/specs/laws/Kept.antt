@@ -17,7 +17,7 @@ use Rattle.field.specs.declared.Field.TheVariants.{Header, PreviousClose, Trade,
 use Rattle.field.specs.Judging.{fine, third_of, header_right, price_right, alone, judge, also}
 use Rattle.field.specs.Layout.{form_tag, tag_of, size_of}
 use Rattle.field.specs.laws.Field.{clash, unless-passed, body-length}
-use Rattle.field.specs.laws.Sound.{Sound, SoundQuote, sound, judge-sound}
+use Rattle.field.proofs.Sound.{Sound, SoundQuote, sound, judge-sound}
 use Rattle.admit.specs.declared.Progress.{Progress}
 use Rattle.admit.specs.Admitting.{start, before_of, previous_placed, placed, count_number, admit_number, Step, goes, ends, stops, admitted, admit, after_header}
 use Rattle.admit.specs.laws.Admitting.{Passed, went, ended, kept, Later, later-not-header, header-kept, end_is, admit-fine}

@@ -21,14 +21,14 @@ use Rattle.field.specs.declared.Field.{Field}
 use Rattle.field.specs.declared.Field.TheVariants as F
 use Rattle.field.specs.Judging.{fine, pick, cents_within, if_absent, third_of, has_bid, has_offer, judge}
 use Rattle.field.specs.laws.Field.{both_true}
-use Rattle.field.specs.laws.Sound.{Sound, sound, metal-range, marks-range, price-size, sides-size}
+use Rattle.field.proofs.Sound.{Sound, sound, metal-range, marks-range, price-size, sides-size}
 use Rattle.dollars.specs.declared.Money.{Money}
 use Rattle.dollars.specs.declared.Money.TheVariants as M
 use Rattle.dollars.specs.Dollars.{pointed, cents, priced, price, price_text}
 use Rattle.dollars.specs.laws.Cases.{given_is}
-use Rattle.dollars.specs.laws.Dollars.{Odd, price-written, price-read, price-lacks}
+use Rattle.dollars.proofs.Dollars.{Odd, price-written, price-read, price-lacks}
 use Rattle.names.specs.Names.{same, metal_in, instrument_in, metal_name, instrument_name}
-use Rattle.names.specs.laws.Finding.{same-is, instrument-known, instrument-found, metal-known, metal-found}
+use Rattle.names.proofs.Finding.{same-is, instrument-known, instrument-found, metal-known, metal-found}
 use Rattle.items.specs.Items.{items, joined}
 use Rattle.items.specs.laws.Items.{Plain, items-join, join-items, joined-lacks}
 use Rattle.line_reader.specs.declared.Side.{Side}

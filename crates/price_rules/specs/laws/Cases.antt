@@ -13,9 +13,9 @@ use Rattle.price_rules.specs.declared.Method.TheVariants.{Vwap, Twap}
 use Rattle.cents.specs.Close.{close_of}
 use Rattle.indicator.specs.Indicator.{taken, after_from, twap_sum}
 use Rattle.indicator.specs.Spans.{spans_from, products_of}
-use Rattle.indicator.specs.laws.Spans.{by-spans}
-use Rattle.indicator.specs.laws.Examples.{p4, p4-reference}
-use Rattle.indicator.specs.laws.Examples as m1
+use Rattle.indicator.proofs.Spans.{by-spans}
+use Rattle.indicator.proofs.Examples.{p4, p4-reference}
+use Rattle.indicator.proofs.Examples as m1
 use Rattle.twap.specs.Span.{missing, sum, span_of}
 use Rattle.trades.specs.Trades.{Deal, counts, trade_in, trades_in, lots_in}
 use Rattle.price_rules.specs.Closing.{Told, close, refused, row_answer, Known, answer_by, figures_of, vwap_lots, vwap_sum, deals_sum, implied_by}

@@ -13,8 +13,9 @@ use Rattle.field.specs.declared.Field.TheVariants.{Header, PreviousClose, Trade,
 use Rattle.field.specs.Judging.{fine, both, allowed, alone, judge}
 use Rattle.field.specs.Layout.{tag_right, size_of, price_at, quote_of, field_of}
 use Rattle.field.specs.laws.Field.{part-is, both_true}
-use Rattle.field.specs.laws.Sound.{Sound, sound, judge-sound}
-use Rattle.field.specs.laws.Ends.{both_sides_right, both-sides}
+use Rattle.field.proofs.Sound.{Sound, sound, judge-sound}
+use Rattle.field.specs.laws.Ends.{both_sides_right}
+use Rattle.field.proofs.Ends.{both-sides}
 use Rattle.field.specs.laws.Standing.{stands, Stood, stood, field_at}
 
 -- a field with its time put aside

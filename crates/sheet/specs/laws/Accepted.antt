@@ -16,7 +16,7 @@ use Rattle.field.specs.declared.Field.TheVariants.{Header, PreviousClose, Trade,
 use Rattle.field.specs.Judging.{header_right, third_of, allowed, alone}
 use Rattle.field.specs.Layout.{tag_of}
 use Rattle.field.specs.declared.Before.{Before}
-use Rattle.field.specs.laws.Sound.{Sound, sound}
+use Rattle.field.proofs.Sound.{Sound, sound}
 use Rattle.field.specs.Reading.{shape_at}
 use Rattle.field.specs.laws.Field.{clash}
 use Rattle.admit.specs.declared.Progress.{Progress}

@@ -17,7 +17,7 @@ use Rattle.field.specs.Said.{gives}
 use Rattle.field.specs.Reading.{body_at, shape_at}
 use Rattle.field.specs.laws.Field.{Headed, Shaped, shaped}
 use Rattle.field.specs.Judging.{alone}
-use Rattle.field.specs.laws.Sound.{Sound}
+use Rattle.field.proofs.Sound.{Sound}
 use Rattle.sheet.specs.declared.Day.{Day}
 use Rattle.sheet.specs.Fields.{fields_at, fields_of, Each}
 use Rattle.sheet.specs.Judgement.{accepts, judge_sheet}

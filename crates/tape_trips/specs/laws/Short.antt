@@ -14,7 +14,7 @@ use Rattle.field.specs.declared.Field.TheVariants as F
 use Rattle.field.specs.Judging.{alone, third_of, has_bid, has_offer}
 use Rattle.field.specs.Layout.{form_tag, tag_of, size_of, field_bytes}
 use Rattle.field.specs.laws.Field.{field-length}
-use Rattle.field.specs.laws.Sound.{Sound, price-size, sides-size, marks-range}
+use Rattle.field.proofs.Sound.{Sound, price-size, sides-size, marks-range}
 use Rattle.admit.specs.declared.Progress.{Progress}
 use Rattle.admit.specs.Admitting.{admit, ends}
 use Rattle.admit.specs.laws.Admitting.{went, ended, passed-sound, first-header, Later, later-not-header, kept, end_is}
@@ -25,7 +25,7 @@ use Rattle.sheet.specs.laws.Accepted.{Chain, last, more, accepted-chain, accepte
 use Rattle.sheet.specs.laws.Encoding.{accepted-encodes}
 use Rattle.dollars.specs.Dollars.{sign_of, amount, price_text}
 use Rattle.names.specs.Names.{metal_name, instrument_name}
-use Rattle.names.specs.laws.Names.{metal-length, instrument-length}
+use Rattle.names.proofs.Names.{metal-length, instrument-length}
 use Rattle.items.specs.Items.{joined_to}
 use Rattle.line_reader.specs.Lines.{side_text, form_items, items_of, line_of}
 use Rattle.tape.specs.Tape.{line_text, text_of}

@@ -12,7 +12,7 @@ use Rattle.field.specs.declared.Read.TheVariants as R
 use Rattle.field.specs.Said.{read_says}
 use Rattle.field.specs.Reading.{shape_at}
 use Rattle.field.specs.Judging.{alone}
-use Rattle.field.specs.laws.Sound.{Sound}
+use Rattle.field.proofs.Sound.{Sound}
 use Rattle.sheet.specs.declared.Day.{Day}
 use Rattle.sheet.specs.declared.Judged.{Judged}
 use Rattle.sheet.specs.declared.Judged.TheVariants as J

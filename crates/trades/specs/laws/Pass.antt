@@ -14,7 +14,7 @@ use Rattle.field.specs.Layout.{size_of, trade_of, field_of}
 use Rattle.field.specs.Reading.{body_at}
 use Rattle.field.specs.laws.Field.{clash, Headed}
 use Rattle.field.specs.Judging.{alone}
-use Rattle.field.specs.laws.Sound.{Sound}
+use Rattle.field.proofs.Sound.{Sound}
 use Rattle.market.specs.declared.Metal.{Metal}
 use Rattle.market.specs.Market.{metal_of, start_of, in_window}
 use Rattle.market.specs.laws.Rows.{start_in}

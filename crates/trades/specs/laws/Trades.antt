@@ -26,7 +26,7 @@ use Rattle.field.specs.Said.{gives, refuses}
 use Rattle.field.specs.Reading.{shape_at}
 use Rattle.field.specs.laws.Field.{clash, shaped}
 use Rattle.field.specs.Judging.{alone}
-use Rattle.field.specs.laws.Sound.{Sound, price-size}
+use Rattle.field.proofs.Sound.{Sound, price-size}
 use Rattle.market.specs.Market.{start_of, in_window}
 use Rattle.sheet.specs.declared.Day.{Day}
 use Rattle.sheet.specs.declared.Judged.{Judged}

@@ -7,7 +7,7 @@ use Rattle.field.specs.declared.Before.{Before}
 use Rattle.field.specs.declared.Field.{Field}
 use Rattle.field.specs.declared.Field.TheVariants.{Header, PreviousClose, Trade, Quote, End}
 use Rattle.field.specs.Judging.{fine, third_of, judge}
-use Rattle.field.specs.laws.Sound.{Sound, sound, marks-range, price-size, sides-size}
+use Rattle.field.proofs.Sound.{Sound, sound, marks-range, price-size, sides-size}
 use Rattle.trips.specs.Held.{HeldPrice, Held, Counted}
 
 -- a price of so few cents fits

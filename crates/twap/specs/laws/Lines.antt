@@ -18,7 +18,7 @@ use Rattle.cents.specs.laws.Whole.{size-+, size-*}
 use Rattle.field.specs.declared.Field.{Field}
 use Rattle.field.specs.declared.Field.TheVariants.{Header, PreviousClose, Trade, Quote, End}
 use Rattle.field.specs.Judging.{alone}
-use Rattle.field.specs.laws.Sound.{Sound}
+use Rattle.field.proofs.Sound.{Sound}
 use Rattle.market.specs.declared.Metal.{Metal}
 use Rattle.market.specs.Market.{start_of, window_length}
 use Rattle.market.specs.laws.Rows.{window-length}
@@ -29,7 +29,7 @@ use Rattle.indicator.specs.declared.Indicator.{Indicator}
 use Rattle.indicator.specs.Indicator.{cents_of, empty, value_of, taken, stamp}
 use Rattle.indicator.specs.Spans.{PricedSpan, is_of, spans_from, spans_of, products_of}
 use Rattle.indicator.specs.laws.Indicator.{Rising, told_by}
-use Rattle.indicator.specs.laws.Spans.{Meets, other, early, behind, cut, meets, spans-other, spans-early, spans-behind, spans-cut, by-spans}
+use Rattle.indicator.proofs.Spans.{Meets, other, early, behind, cut, meets, spans-other, spans-early, spans-behind, spans-cut, by-spans}
 use Rattle.twap.specs.declared.Total.{Total}
 use Rattle.twap.specs.declared.Stamp.{Stamp}
 use Rattle.twap.specs.declared.Line.{Line}

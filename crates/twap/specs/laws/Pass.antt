@@ -33,7 +33,7 @@ use Rattle.sheet.specs.laws.ByInstrument as pass
 use Rattle.indicator.specs.Indicator.{cents_at, twap_sum}
 use Rattle.indicator.specs.Spans.{spans_of, products_of}
 use Rattle.indicator.specs.laws.Indicator.{Rising}
-use Rattle.indicator.specs.laws.Spans.{Covers, spans-cover, by-spans}
+use Rattle.indicator.proofs.Spans.{Covers, spans-cover, by-spans}
 use Rattle.twap.specs.declared.Stamp.{Stamp}
 use Rattle.twap.specs.declared.Line.{Line}
 use Rattle.twap.specs.declared.Summed.{Summed}

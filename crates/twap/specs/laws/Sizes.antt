@@ -7,7 +7,7 @@ use Rattle.field.specs.declared.Price.{Price}
 use Rattle.field.specs.declared.Field.{Field}
 use Rattle.field.specs.declared.Field.TheVariants.{Header, PreviousClose, Trade, Quote, End}
 use Rattle.field.specs.Judging.{alone, has_bid, has_offer}
-use Rattle.field.specs.laws.Sound.{Sound, price-size, sides-size}
+use Rattle.field.proofs.Sound.{Sound, price-size, sides-size}
 use Rattle.market.specs.Market.{window_length}
 use Rattle.market.specs.laws.Rows.{window-length}
 use Rattle.sheet.specs.Fields.{fields_of, Each}

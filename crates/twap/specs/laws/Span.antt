@@ -4,7 +4,8 @@ use Rattle.std.proofs.Common.{sym, ap, ◌∙◌, arith, ext_get_or}
 use Rattle.promise.specs.laws.Once.{through}
 use Rattle.field.specs.declared.Field.{Field}
 use Rattle.indicator.specs.Indicator.{twap_sum}
-use Rattle.indicator.specs.laws.Indicator.{told_by, reference-told}
+use Rattle.indicator.specs.laws.Indicator.{told_by}
+use Rattle.indicator.proofs.State.{reference-told}
 use Rattle.twap.specs.declared.Summed.{Summed}
 use Rattle.twap.specs.declared.Summed.TheVariants as S
 use Rattle.twap.specs.Span.{Span, span_of, span_says, missing, sum, Sums}

@@ -10,8 +10,9 @@ use Rattle.market.specs.Market.{window_length}
 use Rattle.market.specs.laws.Rows.{window-length}
 use Rattle.indicator.specs.Indicator.{cents_of, empty, value_of, taken, after_from, twap_sum, has_reference}
 use Rattle.indicator.specs.Spans.{PricedSpan, spans_from, spans_of, products_of}
-use Rattle.indicator.specs.laws.Indicator.{Rising, Counted, all_taken, whole-window}
-use Rattle.indicator.specs.laws.Spans.{by-spans}
+use Rattle.indicator.specs.laws.Indicator.{Rising, Counted, all_taken}
+use Rattle.indicator.proofs.State.{whole-window}
+use Rattle.indicator.proofs.Spans.{by-spans}
 
 -- the start of Copper's spread window
 abbrev pub start : ℕ

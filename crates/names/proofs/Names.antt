@@ -5,7 +5,7 @@ use Rattle.std.proofs.Math.ListN.{get_or-eq_default}
 use Rattle.std.proofs.Math.Seq.{take-length, take-append_seam}
 use Rattle.market.specs.laws.Table.{both, both_left, both_right, from_one}
 use Rattle.field.specs.Judging.{third_of, header_right}
-use Rattle.field.specs.laws.Sound.{metal-range}
+use Rattle.field.proofs.Sound.{metal-range}
 use Rattle.sheet.specs.declared.Day.{Day}
 use Rattle.sheet.specs.Judgement.{accepts, judge_sheet}
 use Rattle.sheet.specs.laws.Accepted.{accepted-right}

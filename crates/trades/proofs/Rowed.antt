@@ -9,7 +9,7 @@ use Rattle.std.proofs.Common.{arith, leb→le}
 use Rattle.field.specs.declared.Field.{Field}
 use Rattle.field.specs.declared.Field.TheVariants.{Header, PreviousClose, Trade, Quote, End}
 use Rattle.field.specs.Judging.{alone, third_of, header_right}
-use Rattle.field.specs.laws.Sound.{Sound, metal-range}
+use Rattle.field.proofs.Sound.{Sound, metal-range}
 use Rattle.market.specs.declared.Metal.{Metal}
 use Rattle.market.specs.Market.{metals, metal_of, instruments, step_of, window_length}
 use Rattle.market.specs.laws.Rows.{window-length}

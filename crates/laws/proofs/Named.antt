@@ -16,8 +16,8 @@ use Rattle.sheet.specs.Judgement.{Verdict, accepts, refuses-at, judge_sheet}
 use Rattle.sheet.specs.laws.Accepted.{Let, accepted-let}
 use Rattle.price_rules.specs.Closing.{Figures, figures_of, refused, known_at, answer_of, closings_of, six, answers_by, answers_of}
 use Rattle.laws.specs.Demand.{answer_at, turned_marks, remarked, turned_field, turned, BarredLaw, NamedLaw}
-use Rattle.laws.specs.laws.Shift.{three-unnamed}
-use Rattle.laws.specs.laws.Lift.{answer_at_lem}
+use Rattle.laws.proofs.Shift.{three-unnamed}
+use Rattle.laws.proofs.Lift.{answer_at_lem}
 
 -- ---- the contract that 3M is
 

@@ -19,7 +19,8 @@ use Rattle.indicator.specs.declared.Indicator.{Indicator}
 use Rattle.indicator.specs.Indicator.{cents_of, empty, value_of, taken, stamp, after_from, after, cents_at, sum_from, twap_sum}
 use Rattle.indicator.specs.Spans.{PricedSpan, standing, is_of, spans_from, spans_of, products_of}
 use Rattle.indicator.specs.laws.Sums.{sum-none, sum-append, sum-const}
-use Rattle.indicator.specs.laws.Indicator.{Rising, rest-rises, stamp-rises, due, late}
+use Rattle.indicator.specs.laws.Indicator.{Rising}
+use Rattle.indicator.proofs.State.{rest-rises, stamp-rises, due, late}
 
 -- ---- how a field meets the open span
 

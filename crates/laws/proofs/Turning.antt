@@ -16,7 +16,7 @@ use Rattle.field.specs.declared.Field.{Field}
 use Rattle.field.specs.declared.Field.TheVariants.{Header, PreviousClose, Trade, Quote, End}
 use Rattle.field.specs.Judging.{both, pick, if_present, if_absent, cents_within, third_of, header_right, price_right, has_bid, has_offer, alone}
 use Rattle.field.specs.laws.Field.{both_true, both-holds}
-use Rattle.field.specs.laws.Sound.{Sound, SoundQuote}
+use Rattle.field.proofs.Sound.{Sound, SoundQuote}
 use Rattle.market.specs.Market.{start_of}
 use Rattle.admit.specs.laws.Admitting.{Later}
 use Rattle.sheet.specs.declared.Day.{Day}
@@ -28,15 +28,15 @@ use Rattle.trades.specs.Trades.{Deal, trades_in, lots_in, value_in}
 use Rattle.indicator.specs.Indicator.{twap_sum, has_reference}
 use Rattle.field.specs.Repriced.{concerns, changed, turn_price, turn_sides, turn_field}
 use Rattle.indicator.specs.laws.Changed.{repriced-keeps}
-use Rattle.indicator.specs.laws.Moved.{Fair, turned-reference}
-use Rattle.indicator.specs.laws.Moved as moved
+use Rattle.indicator.proofs.Moved.{Fair, turned-reference}
+use Rattle.indicator.proofs.Moved as moved
 use Rattle.twap.specs.Span.{missing, sum, span_of}
 use Rattle.price_rules.specs.Closing.{figures_of, closings_of, six}
 use Rattle.laws.specs.Demand.{turned_marks, remarked, turned_field, turned, turned_day, TurnLaw, TwiceLaw}
 use Rattle.laws.specs.laws.Marks.{xor-twice, mark-turned, mark-kept, marks-small}
 use Rattle.laws.specs.laws.Kept.{Right, changed-all, right-changed, changedFields, changed-accepted}
 use Rattle.laws.specs.laws.Figures.{repriced_deal, trades-changed, trades-others, lots-kept, trades-header, span-header, span-others, le-true}
-use Rattle.laws.specs.laws.Lift.{answers-are}
+use Rattle.laws.proofs.Lift.{answers-are}
 use Rattle.laws.specs.laws.Turn.{turned_span, Turned, turn}
 
 -- ---- a turned field stays right

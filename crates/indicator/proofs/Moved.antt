@@ -19,7 +19,7 @@ use Rattle.indicator.specs.declared.Side.TheVariants.{Absent, At}
 use Rattle.indicator.specs.declared.Indicator.{Indicator}
 use Rattle.indicator.specs.Indicator.{side_of, present, cents_of, empty, after_trade, after_close, after_quote, below, below_offer, inside_book, value_by, value_of, taken, after_from, after, cents_at, twap_sum, has_reference}
 use Rattle.indicator.specs.laws.Sums.{sum-cong, sum-shift, sum-neg}
-use Rattle.indicator.specs.laws.Indicator.{reference-stays}
+use Rattle.indicator.proofs.State.{reference-stays}
 use Rattle.field.specs.Repriced.{changed, shift_price, shift_sides, shift_field, turn_price, turn_sides, turn_field}
 use Rattle.indicator.specs.laws.Changed.{on_side, on-present, on-else, cond_map, repriced-keeps, repriced-along, after-changed}
 

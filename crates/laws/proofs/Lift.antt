@@ -17,7 +17,7 @@ use Rattle.field.specs.declared.Before.{Before}
 use Rattle.field.specs.declared.Field.{Field}
 use Rattle.field.specs.Judging.{both, third_of, pick, if_present, if_absent, cents_within, price_right, has_bid, has_offer, side_prices_right}
 use Rattle.field.specs.laws.Field.{both_true, both-holds}
-use Rattle.field.specs.laws.Sound.{SoundQuote}
+use Rattle.field.proofs.Sound.{SoundQuote}
 use Rattle.market.specs.Market.{start_of, step_of, 3M}
 use Rattle.sheet.specs.declared.Day.{Day}
 use Rattle.sheet.specs.Fields.{fields_of, encode, Each}
@@ -25,16 +25,16 @@ use Rattle.sheet.specs.Judgement.{accepts, judge_sheet}
 use Rattle.sheet.specs.laws.Accepted.{accepted-header, accepted-right}
 use Rattle.trades.specs.Trades.{Deal, trades_in, lots_in, value_in}
 use Rattle.trades.specs.laws.Trades.{numbered}
-use Rattle.trades.specs.laws.Rowed.{accepted-step}
+use Rattle.trades.proofs.Rowed.{accepted-step}
 use Rattle.indicator.specs.Indicator.{twap_sum, has_reference}
 use Rattle.field.specs.Repriced.{shift_price, shift_sides}
-use Rattle.indicator.specs.laws.Moved.{shifted-reference, shifted}
+use Rattle.indicator.proofs.Moved.{shifted-reference, shifted}
 use Rattle.twap.specs.Span.{missing, sum, span_of}
 use Rattle.price_rules.specs.Closing.{Figures, figures_of, refused, answer_of, closings_of, six, answers_by, answers_of}
 use Rattle.laws.specs.Demand.{steps, lifted_field, lifted, Liftable, Moved, InRange, answer_at, Moves, Lifts, ShiftLaw}
 use Rattle.laws.specs.laws.Kept.{Right, right-changed, changedFields, changed-accepted}
 use Rattle.laws.specs.laws.Figures.{repriced_deal, trades-changed, trades-others, span-others, lots-kept, le-true}
-use Rattle.laws.specs.laws.Shift.{LiftedSpan, none, some, Lifted, shift}
+use Rattle.laws.proofs.Shift.{LiftedSpan, none, some, Lifted, shift}
 
 -- ---- a lifted field stays right
 
