@@ -25,7 +25,7 @@ use Rattle.sheet.specs.Judgement.{accepts, judge_sheet}
 use Rattle.sheet.specs.laws.Accepted.{accepted-header, accepted-right}
 use Rattle.trades.specs.Trades.{Deal, trades_in, lots_in, value_in}
 use Rattle.trades.specs.laws.Trades.{numbered}
-use Rattle.trades.proofs.Rowed.{accepted-step}
+use Rattle.trades.specs.laws.Rowed.{accepted-step}
 use Rattle.indicator.specs.Indicator.{twap_sum, has_reference}
 use Rattle.field.specs.Repriced.{shift_price, shift_sides}
 use Rattle.indicator.proofs.Moved.{shifted-reference, shifted}

@@ -1,2 +1,3 @@
 pub mod Trades
 pub mod Pass
+pub mod Rowed

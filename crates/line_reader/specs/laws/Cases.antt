@@ -17,7 +17,7 @@ use Rattle.dollars.specs.declared.Money.{Money}
 use Rattle.dollars.specs.declared.Money.TheVariants as M
 use Rattle.dollars.specs.Dollars.{priced, price}
 use Rattle.names.specs.Names.{same, metal_in, instrument_in}
-use Rattle.names.proofs.Finding.{instrument-found, metal-found}
+use Rattle.names.specs.laws.Finding.{instrument-found, metal-found}
 use Rattle.items.specs.Items.{end_of}
 use Rattle.items.specs.laws.Items.{last-item, next-item}
 use Rattle.line_reader.specs.declared.Side.{Side}

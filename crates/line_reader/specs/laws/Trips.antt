@@ -28,7 +28,7 @@ use Rattle.dollars.specs.Dollars.{pointed, cents, priced, price, price_text}
 use Rattle.dollars.specs.laws.Cases.{given_is}
 use Rattle.dollars.proofs.Dollars.{Odd, price-written, price-read, price-lacks}
 use Rattle.names.specs.Names.{same, metal_in, instrument_in, metal_name, instrument_name}
-use Rattle.names.proofs.Finding.{same-is, instrument-known, instrument-found, metal-known, metal-found}
+use Rattle.names.specs.laws.Finding.{same-is, instrument-known, instrument-found, metal-known, metal-found}
 use Rattle.items.specs.Items.{items, joined}
 use Rattle.items.specs.laws.Items.{Plain, items-join, join-items, joined-lacks}
 use Rattle.line_reader.specs.declared.Side.{Side}

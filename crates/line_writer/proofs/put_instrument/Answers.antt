@@ -1,7 +1,7 @@
 -- `line_writer::put_instrument` meets its contract. Assumes nothing.
 use native.Mathlib.Omega.{arith}
 use Rattle.names.specs.Names.{instrument_name}
-use Rattle.names.proofs.Names.{instrument-length, name-short, name-bytes}
+use Rattle.names.specs.laws.Names.{instrument-length, name-short, name-bytes}
 use borrow.Author.Rules.{rules}
 use Rattle.text.specs.laws.Putting.{same_bytes}
 use Rattle.line_writer.proofs.put_instrument.Goals as goal

@@ -1,7 +1,7 @@
 -- `line_writer::put_metal` meets its contract. Assumes nothing.
 use native.Mathlib.Omega.{arith}
 use Rattle.names.specs.Names.{metal_name}
-use Rattle.names.proofs.Names.{metal-length, name-short, name-bytes}
+use Rattle.names.specs.laws.Names.{metal-length, name-short, name-bytes}
 use borrow.Author.Rules.{rules}
 use Rattle.text.specs.laws.Putting.{same_bytes}
 use Rattle.line_writer.proofs.put_metal.Goals as goal

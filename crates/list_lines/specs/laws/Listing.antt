@@ -16,7 +16,7 @@ use Rattle.price_rules.specs.Closing.{Told, close, refused, six, none-priced, fi
 use Rattle.price_rules.specs.Says.{answer_says, closed_says}
 use Rattle.names.specs.Names.{contract_name, too_long_name}
 use Rattle.list_lines.specs.Listing.{space, line, answer_items, answer_line, answer_lines, list_text, list_of}
-use Rattle.names.proofs.Names.{metal-length, contract-length, method-length}
+use Rattle.names.specs.laws.Names.{metal-length, contract-length, method-length}
 
 -- ---- lines
 

@@ -2,7 +2,7 @@
 use mathlib.Core.Path.{ap, ◌∙◌}
 use borrow.Author.Rules.{rules}
 use Rattle.names.specs.Names.{contract_name, in_name}
-use Rattle.names.proofs.Names.{contract-none}
+use Rattle.names.specs.laws.Names.{contract-none}
 use Rattle.names.proofs.contract_name.Goals as goal
 
 pub returns-in-0 : goal.returns-in-0

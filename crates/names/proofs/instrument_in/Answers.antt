@@ -1,6 +1,6 @@
 -- `names::instrument_in` meets its contract. Assumes nothing.
 use borrow.Author.Rules.{rules}
-use Rattle.names.proofs.Finding.{instrument-is, instrument-short}
+use Rattle.names.specs.laws.Finding.{instrument-is, instrument-short}
 use Rattle.names.proofs.instrument_in.Goals as goal
 
 ruleset finding = (instrument-is, instrument-short, rules)

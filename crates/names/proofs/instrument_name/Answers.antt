@@ -2,7 +2,7 @@
 use mathlib.Core.Path.{ap, ◌∙◌}
 use borrow.Author.Rules.{rules}
 use Rattle.names.specs.Names.{instrument_name, in_name}
-use Rattle.names.proofs.Names.{instrument-none}
+use Rattle.names.specs.laws.Names.{instrument-none}
 use Rattle.names.proofs.instrument_name.Goals as goal
 
 pub returns-in-0 : goal.returns-in-0

@@ -1,6 +1,6 @@
 -- `names::is_name` meets its contract. Assumes nothing.
 use borrow.Author.Rules.{rules}
-use Rattle.names.proofs.Finding.{same-long, alike-start, alike-not, alike_next, alike_end}
+use Rattle.names.specs.laws.Finding.{same-long, alike-start, alike-not, alike_next, alike_end}
 use Rattle.names.proofs.is_name.Goals as goal
 
 ruleset alike = (same-long, alike-start, alike-not, alike_next, alike_end, rules)

@@ -1,7 +1,7 @@
 -- `names::is_name` meets its contract: the lengths, then byte after byte. Assumes nothing.
 use Prim.Native.Nat.{◌-◌}
 use lib.ListN.{length}
-use Rattle.names.proofs.Finding.{Alike}
+use Rattle.names.specs.laws.Finding.{Alike}
 use Rattle.names.proofs.is_name.Given as goal
 
 abbrev pub invariant-loop-i : goal.invariant-loop-i

@@ -2,7 +2,7 @@
 use native.Mathlib.Omega.{arith}
 use borrow.Author.Rules.{rules}
 use Rattle.names.specs.Names.{metal_names, metal_name, metal_in}
-use Rattle.names.proofs.Finding.{seek-metal, metal-short, seek-start, seek-none, turn-found, turn-next}
+use Rattle.names.specs.laws.Finding.{seek-metal, metal-short, seek-start, seek-none, turn-found, turn-next}
 use Rattle.names.proofs.metal_in.Goals as goal
 
 ruleset seeking = (seek-start, metal-short, rules)

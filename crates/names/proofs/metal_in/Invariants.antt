@@ -1,7 +1,7 @@
 -- `names::metal_in` meets its contract: name after name. Assumes nothing.
 use Prim.Native.Nat.{◌-◌}
 use Rattle.names.specs.Names.{metal_names}
-use Rattle.names.proofs.Finding.{Seeking}
+use Rattle.names.specs.laws.Finding.{Seeking}
 use Rattle.names.proofs.metal_in.Given as goal
 
 abbrev pub invariant-loop-metal : goal.invariant-loop-metal

@@ -2,7 +2,7 @@
 use mathlib.Core.Path.{ap, ◌∙◌}
 use borrow.Author.Rules.{rules}
 use Rattle.names.specs.Names.{metal_name, in_name}
-use Rattle.names.proofs.Names.{metal-none}
+use Rattle.names.specs.laws.Names.{metal-none}
 use Rattle.names.proofs.metal_name.Goals as goal
 
 pub returns-in-1 : goal.returns-in-1

@@ -1,7 +1,7 @@
 -- `names::named` meets its contract. Assumes nothing.
 use Rattle.std.specs.Prelude.{refl}
 use Rattle.std.proofs.Math.Seq.{take-length}
-use Rattle.names.proofs.Names.{laid}
+use Rattle.names.specs.laws.Names.{laid}
 use Rattle.names.proofs.named.Goals as goal
 
 pub returns : goal.returns

@@ -3,7 +3,7 @@ use mathlib.Core.Path.{ap, ◌∙◌}
 use native.Mathlib.Omega.{arith}
 use Rattle.text.specs.Held.{held, ◌⊕◌}
 use Rattle.names.specs.Names.{method_name}
-use Rattle.names.proofs.Names.{method-length, name-short, name-bytes}
+use Rattle.names.specs.laws.Names.{method-length, name-short, name-bytes}
 use Rattle.names.proofs.put_method.Goals as goal
 
 pub put_name-requires : goal.put_name-requires

@@ -2,7 +2,7 @@
 use native.Mathlib.Omega.{arith}
 use borrow.Author.Rules.{rules}
 use Rattle.names.specs.Names.{instrument_names, instrument_name, instrument_in}
-use Rattle.names.proofs.Finding.{seek-instrument, instrument-short, seek-start, seek-none, turn-found, turn-next}
+use Rattle.names.specs.laws.Finding.{seek-instrument, instrument-short, seek-start, seek-none, turn-found, turn-next}
 use Rattle.names.proofs.seek_instrument.Goals as goal
 
 ruleset seeking = (seek-start, instrument-short, rules)

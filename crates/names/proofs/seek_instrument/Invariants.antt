@@ -1,7 +1,7 @@
 -- `names::seek_instrument` meets its contract: name after name. Assumes nothing.
 use Prim.Native.Nat.{◌-◌}
 use Rattle.names.specs.Names.{instrument_names}
-use Rattle.names.proofs.Finding.{Seeking}
+use Rattle.names.specs.laws.Finding.{Seeking}
 use Rattle.names.proofs.seek_instrument.Given as goal
 
 abbrev pub invariant-loop-instrument : goal.invariant-loop-instrument

@@ -16,7 +16,7 @@ use Rattle.dollars.specs.Dollars.{priced, amount, price_text}
 use Rattle.dollars.specs.laws.Cases.{minus as less, down_fits}
 use Rattle.dollars.proofs.Dollars.{amount-of, price-plain, price-minus}
 use Rattle.names.specs.Names.{same, instrument_in, instrument_name}
-use Rattle.names.proofs.Finding.{same-is, instrument-found}
+use Rattle.names.specs.laws.Finding.{same-is, instrument-found}
 use Rattle.line_reader.specs.Lines.{side_text, line_of}
 use Rattle.line_reader.specs.laws.Pieces.{trade-line, quote-line}
 use Rattle.line_reader.specs.laws.Trips.{Lined, Shown, Legible, bits, bit-there}

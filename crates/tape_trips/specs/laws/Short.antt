@@ -25,7 +25,7 @@ use Rattle.sheet.specs.laws.Accepted.{Chain, last, more, accepted-chain, accepte
 use Rattle.sheet.specs.laws.Encoding.{accepted-encodes}
 use Rattle.dollars.specs.Dollars.{sign_of, amount, price_text}
 use Rattle.names.specs.Names.{metal_name, instrument_name}
-use Rattle.names.proofs.Names.{metal-length, instrument-length}
+use Rattle.names.specs.laws.Names.{metal-length, instrument-length}
 use Rattle.items.specs.Items.{joined_to}
 use Rattle.line_reader.specs.Lines.{side_text, form_items, items_of, line_of}
 use Rattle.tape.specs.Tape.{line_text, text_of}

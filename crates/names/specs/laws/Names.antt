@@ -1,4 +1,4 @@
--- The numbers that have no name, how long a name can be, and that every metal of an accepted sheet has one. Assumes nothing.
+-- The numbers that have no name, how long a name can be, and that every metal of a right header has one. Assumes nothing.
 use Rattle.std.specs.Prelude.{ℕ, zero, suc, ◌-◌, ◌≤◌, ◌≡◌, refl, Bool, true, List, [], ◌∷◌, ◌++◌, T, leb, get_or, length, take, drop, replicate}
 use Rattle.std.proofs.Common.{sym, ap, ◌∙◌, arith, leb→le}
 use Rattle.std.proofs.Math.ListN.{get_or-eq_default}
@@ -89,6 +89,3 @@ unfolding metal_name
 named m marks third e =
     let range = metal-range m marks third e in
     leb→le 1 (length (metal_name m)) (from_one (λ m. leb 1 (length (metal_name m))) 5 m tt range.0 (omega (arith, range.1)))
-
-pub accepted-named : (s : List ℕ) (day : Day) → judge_sheet s ≡ accepts day → 1 ≤ length (metal_name day.metal)
-accepted-named s day a = named day.metal day.marks (third_of day.form) (accepted-right s day a)

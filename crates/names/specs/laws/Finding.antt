@@ -11,7 +11,7 @@ use Rattle.numerals.specs.laws.Numerals.{clash}
 use Rattle.market.specs.laws.Table.{both, both_left, both_right, below, from_one}
 use Rattle.names.specs.declared.Name.{Name}
 use Rattle.names.specs.Names.{metal_names, metal_name, instrument_names, instrument_name, same, number_of, metal_in, instrument_in, in_name}
-use Rattle.names.proofs.Names.{name-bytes, name-short, metal-length, instrument-length}
+use Rattle.names.specs.laws.Names.{name-bytes, name-short, metal-length, instrument-length}
 
 -- ---- the same bytes
 

@@ -1,8 +1,9 @@
 -- Every metal and every instrument that is admitted has its row in the tables: the ranges that a sheet is held to and the tables that price it
 -- are of one size.
---     rowed, accepted-rowed     the metal of a right header, and so of an accepted sheet, has a row: its step is above 0, its windows lie in the day
---     accepted-step             every contract of an accepted sheet has a step above 0
---     lined, accepted-lined     a right instrument has a row, and so has that of every field of an accepted sheet
+--     rowed            the metal of a right header has a row: its step is above 0, its windows lie in the day
+--     accepted-step    every contract of an accepted sheet has a step above 0
+--     lined            a right instrument has a row
+-- proofs/Accepted has them of an accepted sheet.
 -- Assumes nothing.
 use Rattle.std.specs.Prelude.{ℕ, ◌+◌, ◌≤◌, ◌<◌, ◌≡◌, Bool, true, List, [], ◌∷◌, leb, length}
 use Rattle.std.proofs.Common.{arith, leb→le}
@@ -52,9 +53,6 @@ rowed m marks third e =
       anchor = rw window-length (leb→le (r.anchor + 300000) 86400000 (both_right (leb (r.spread + 300000) 86400000) (leb (r.anchor + 300000) 86400000) windows));
     }
 
-pub accepted-rowed : (s : List ℕ) (day : Day) → judge_sheet s ≡ accepts day → Rowed day.metal
-accepted-rowed s day a = rowed day.metal day.marks (third_of day.form) (accepted-right s day a)
-
 -- and every contract of an accepted sheet is rounded to a step above 0
 pub accepted-step : (s : List ℕ) (day : Day) (c : ℕ) → judge_sheet s ≡ accepts day → 0 < step_of day.metal c
 accepted-step s day c a = let r = metal-range day.metal day.marks (third_of day.form) (accepted-right s day a) in step-some day.metal c r.0 r.1
@@ -72,17 +70,3 @@ Lined (End count) = Unit {0}
 -- as many rows as there are numbers up to 11
 pub lined : (i : ℕ) → i ≤ 11 → i < length instruments
 lined i h = omega (arith, h, leb→le 12 (length instruments) tt)
-
-field-lined : (f : Field) → Sound alone f → Lined f
-field-lined (Header metal marks form) h = tt
-field-lined (PreviousClose instrument price) h = lined instrument h.0.in_table
-field-lined (Trade time instrument price lots) h = lined instrument h.stamp.on.in_table
-field-lined (Quote time instrument sides bid offer) h = lined instrument h.stamp.on.in_table
-field-lined (End count) h = tt
-
-all-lined : (fs : List Field) → Each (Sound alone) fs → Each Lined fs
-all-lined [] h = tt
-all-lined (f ∷ fs) h = (field-lined f h.0, all-lined fs h.1)
-
-pub accepted-lined : (s : List ℕ) (day : Day) → judge_sheet s ≡ accepts day → Each Lined (fields_of s)
-accepted-lined s day a = all-lined (fields_of s) (accepted-sound s day a)
