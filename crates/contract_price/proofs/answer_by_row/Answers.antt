@@ -1,35 +1,36 @@
 -- `contract_price::answer_by_row` meets its contract. Assumes nothing.
--- the row is the table's, and as its rules have it
--- the step is the contract's
 use mathlib.Core.Path.{◌≡◌, ◌∙◌}
 use native.Mathlib.Omega.{arith}
-use Rattle.market.specs.Market.{contract_of, step_of}
+use Prim.Native.Nat.{ℕ}
+use Rattle.std.proofs.Common.{cond, eqb}
+use Rattle.market.specs.Market.{metal_of, contract_of, step_of}
+use Rattle.market.specs.declared.Contract.{Contract}
 use Rattle.market.specs.laws.Rules.{Ruled}
 use Rattle.contract_price.specs.laws.Numbers.{few, row-built, row_of, row-ruled}
 use borrow.Author.Rules.{rules}
 use Rattle.contract_price.proofs.answer_by_row.Goals as goal
 
-row_is : (c : goal.After-contract_by-row) → c.contract_by-row.result ≡ contract_of c.args.c
-row_is c = row_of c.args.c c.contract_by-row.ensures c.requires.0.rows
-
-row : (c : goal.After-contract_by-row) → Ruled c.args.c c.contract_by-row.result
-row c = row-ruled c.args.c c.contract_by-row.ensures c.requires.0.rows c.requires.2
-
-step : (c : goal.After-step_by) → c.step_by.result ≡ step_of c.args.metal c.args.c
+-- the step is the contract's
+step : (metal c : ℕ) {u : ℕ} {row : Contract} → u ≡ cond (eqb row.step 0) (metal_of metal).step row.step → row ≡ contract_of c → u ≡ step_of metal c
 unfolding step_of
-step c = c.step_by.ensures ∙ rw (row_is c.before.before.before.before)
+step metal c e is = e ∙ rw is
 
 pub overflow_sub-row : goal.overflow_sub-row
-overflow_sub-row c = omega (arith, (row c.before).order, (row c.before).among)
+overflow_sub-row c =
+    let row = row-ruled c.args.c c.contract_by-row.ensures c.requires.0.rows c.requires.2 in
+    omega (arith, row.order, row.among)
 
 pub vwap_sum-s-requires : goal.vwap_sum-s-requires
 vwap_sum-s-requires c =
-    (c.requires.0.legs, c.requires.0.small, c.requires.1, rw (row_is c.before) (few c.args.c c.requires.2), omega (arith, (row c.before).order, (row c.before).among, (row c.before).inside))
+    let row-is = row_of c.args.c c.contract_by-row.ensures c.requires.0.rows in
+    let row = row-ruled c.args.c c.contract_by-row.ensures c.requires.0.rows c.requires.2 in
+    (c.requires.0.legs, c.requires.0.small, c.requires.1, rw row-is (few c.args.c c.requires.2), omega (arith, row.order, row.among, row.inside))
 
 pub mean_by_lots-mean-requires : goal.mean_by_lots-mean-requires
 mean_by_lots-mean-requires c = (c.requires.0.summable, c.requires.1)
 
 pub returns : goal.returns
 returns c =
-    rw (step c.before) at c.rounded.ensures
-    ∙ row-built _ _ _ _ _ _ (c.vwap_sum-s.ensures ∙ rw (row_is c.before.before.before.before.before)) (c.mean_by_lots-mean.ensures ∙ rw (row_is c.before.before.before.before.before))
+    let row-is = row_of c.args.c c.contract_by-row.ensures c.requires.0.rows in
+    rw (step c.args.metal c.args.c c.step_by.ensures row-is) at c.rounded.ensures
+    ∙ row-built _ _ _ _ _ _ (c.vwap_sum-s.ensures ∙ rw row-is) (c.mean_by_lots-mean.ensures ∙ rw row-is)

@@ -1,5 +1,4 @@
 -- `contract_price::indicator_mean` meets its contract. Assumes nothing.
--- the sum is within 64 bits, and read as it is
 use Rattle.price_rules.specs.Closing.{implied_by, twap_by}
 use Rattle.price_rules.specs.laws.Adding.{implied-is, implied-size}
 use Rattle.price_rules.specs.declared.Method.TheVariants.{Twap}
@@ -18,21 +17,21 @@ use Rattle.twap.specs.Span.{span_says}
 use borrow.Author.Rules.{rules}
 use Rattle.contract_price.proofs.indicator_mean.Goals as goal
 
-small : (c : goal.In-Sum-2) → nat_abs c.in-Sum.total.cents ≤ 29999999700000
-small c = summed-small c.requires.0 (sym (ap span_says c.in-Sum.is))
-
-read : (c : goal.In-Sum-2) → to_z w64 (of_z w64 c.in-Sum.total.cents) ≡ c.in-Sum.total.cents
-read c = same_at w64 c.in-Sum.total.cents (omega (arith, mag-size c.in-Sum.total.cents, small c))
+-- the sum is read as it is
+read : (z : ℤ) → nat_abs z ≤ 29999999700000 → to_z w64 (of_z w64 z) ≡ z
+read z h = same_at w64 z (omega (arith, mag-size z, h))
 
 pub implied_price-requires : goal.implied_price-requires
 implied_price-requires c =
-    (c.requires.1, omega arith, rw (read c.before.before.before.before) (omega (arith, small c.before.before.before.before)))
+    let small = summed-small c.requires.0 (sym (ap span_says c.in-Sum.is)) in
+    (c.requires.1, omega arith, rw (read c.in-Sum.total.cents small) (omega (arith, small)))
 
 pub returns-in-Sum : goal.returns-in-Sum
 returns-in-Sum c =
     let total = c.in-Sum.total.cents in
-    let size = implied-size c.args.marks c.requires.1 c.args.i 300000 total (omega arith) (omega (arith, small c.before.before.before.before.before)) in
-    let part = implied-is c.args.marks c.args.closes.now c.args.i 300000 total c.leg_of.ensures c.is_marked.ensures (rw (read c.before.before.before.before.before) at c.implied_price.ensures) in
+    let small = summed-small c.requires.0 (sym (ap span_says c.in-Sum.is)) in
+    let size = implied-size c.args.marks c.requires.1 c.args.i 300000 total (omega arith) (omega (arith, small)) in
+    let part = implied-is c.args.marks c.args.closes.now c.args.i 300000 total c.leg_of.ensures c.is_marked.ensures (rw (read total small) at c.implied_price.ensures) in
     ap (λ (z : ℤ). Of Twap z 300000) (back tt (known_is part size)).known
     ∙ ap (λ (n : ℕ). Of Twap (implied_by c.args.marks c.args.closes.now c.args.i n total) n) (sym window-length)
     ∙ ap (λ (x : Summed). twap_by c.args.marks c.args.closes.now c.args.i (span_says x)) (sym c.in-Sum.is)

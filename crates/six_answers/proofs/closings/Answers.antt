@@ -1,5 +1,5 @@
 -- `six_answers::closings` meets its contract. Assumes nothing.
--- the sheet is accepted as it was judged
+-- the sheet is (sym as.totals-traded.ensures.judged ∙ ap judged_says as.in-Accepted.is) it was judged
 use mathlib.Core.Path.{◌≡◌, sym, ap, ◌∙◌}
 use Rattle.sheet.specs.Fields.{fields_of}
 use Rattle.sheet.specs.Judgement.{accepts, judge_sheet, judged_says}
@@ -8,19 +8,16 @@ use Rattle.price_rules.specs.Closing.{six, answers_by, answers_of}
 use borrow.Author.Rules.{rules}
 use Rattle.six_answers.proofs.closings.Goals as goal
 
-accepted : (c : goal.In-Accepted-2) → judge_sheet c.args.sheet.now ≡ accepts c.in-Accepted.day
-accepted c = sym c.totals-traded.ensures.judged ∙ ap judged_says c.in-Accepted.is
-
 pub price_all-requires : goal.price_all-requires
 unfolding totals_by
 price_all-requires c =
-    let e = accepted c.before.before.before in
+    let e = sym c.totals-traded.ensures.judged ∙ ap judged_says c.in-Accepted.is in
     record { accepted = record { day = _; judged = e }; totals = c.totals-traded.ensures.totals ∙ rw e }
 
 pub returns-in-Accepted : goal.returns-in-Accepted
 unfolding answers_of
 returns-in-Accepted c =
-    rw (accepted c.before.before.before.before) (ap (six c.in-Accepted.day) (rw c.third_of.ensures at c.price_all.ensures))
+    rw (sym c.totals-traded.ensures.judged ∙ ap judged_says c.in-Accepted.is) (ap (six c.in-Accepted.day) (rw c.third_of.ensures at c.price_all.ensures))
 
 pub returns-in-Refused : goal.returns-in-Refused
 unfolding answers_of

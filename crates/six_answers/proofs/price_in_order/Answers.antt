@@ -1,5 +1,4 @@
 -- `six_answers::price_in_order` meets its contract: the state before each contract stands as the definition has it. Assumes nothing.
--- the row is the contract's
 use Prim.Native.Nat.{◌-◌}
 use mathlib.Core.Path.{◌≡◌, refl, ◌∙◌}
 use native.Mathlib.Omega.{arith}
@@ -13,9 +12,6 @@ use Rattle.six_answers.specs.laws.Steps.{sum-lent, step_of}
 use Rattle.six_answers.specs.laws.State.{Stands, stands-first, stands-bounded, stands-next, stands-all}
 use borrow.Author.Rules.{rules}
 use Rattle.six_answers.proofs.price_in_order.Goals as goal
-
-row : (c : tie.After-contract-by invariant-loop decreases-loop) → c.contract-by.result ≡ contract_of c.before.before.before.before.loop.c
-row c = row_of _ c.contract-by.ensures c.before.before.before.before.before.before.before.before.before.contract-rows.ensures
 
 pub some_ask-requires : goal.some_ask-requires
 some_ask-requires c = (c.contract_rows-rows.ensures, countable _ c.args.values.now (ready-small _ _ c.requires))
@@ -33,11 +29,11 @@ bounds-sums-row c =
 
 pub price_one-a-requires : goal.price_one-a-requires
 price_one-a-requires c =
-    (sum-lent _ _ _ _ _ _ c.requires c.some_ask.ensures _ c.sums_if-sums.ensures _ (omega arith) (row c.before.before.before.before.before) c.contract_rows-rows.ensures c.instrument_rows-legs.ensures, stands-bounded _ c.loop-c.invariant, omega arith)
+    (sum-lent _ _ _ _ _ _ c.requires c.some_ask.ensures _ c.sums_if-sums.ensures _ (omega arith) (row_of _ c.contract_by-row.ensures c.contract_rows-rows.ensures) c.contract_rows-rows.ensures c.instrument_rows-legs.ensures, stands-bounded _ c.loop-c.invariant, omega arith)
 
 pub loop-c-preserved : goal.loop-c-preserved
 loop-c-preserved c =
-    stands-next _ c.loop-c.invariant _ (omega arith) (c.price_one-a.ensures ∙ step_of _ _ _ _ _ _ c.requires c.some_ask.ensures _ c.sums_if-sums.ensures _ (omega arith) (row c.before.before.before.before.before.before.before.before) _) c.close_in.ensures c.is_refused-stopped.ensures
+    stands-next _ c.loop-c.invariant _ (omega arith) (c.price_one-a.ensures ∙ step_of _ _ _ _ _ _ c.requires c.some_ask.ensures _ c.sums_if-sums.ensures _ (omega arith) (row_of _ c.contract_by-row.ensures c.contract_rows-rows.ensures) _) c.close_in.ensures c.is_refused-stopped.ensures
 
 pub returns : goal.returns
 returns c = stands-all _ c.loop-c.invariant (omega arith)
