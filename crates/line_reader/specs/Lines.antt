@@ -1,8 +1,7 @@
 -- TAPE 1 to 4: a line of the tape, without its line feed, and the field that it stands for.
-use Rattle.std.specs.Prelude.{ℕ, ◌+◌, ◌*◌, ◌/◌, ◌%◌, Bool, cond, List, [], ◌∷◌, eqb, pos}
+use Rattle.std.specs.Prelude.{ℕ, ◌+◌, ◌*◌, Bool, cond, List, [], ◌∷◌, pos}
 use Rattle.text.specs.Ascii.{ascii}
 use Rattle.text.specs.Decimal.{decimal}
-use Rattle.numerals.specs.declared.Number.{Number}
 use Rattle.numerals.specs.Numerals.{number, given}
 use Rattle.field.specs.declared.Price.{Price}
 use Rattle.field.specs.declared.Form.{Form}

@@ -3,7 +3,7 @@
 --     line_read      so of one whose values earn no number
 --     read-line      line_of f is the line
 -- Assumes nothing.
-use Rattle.std.specs.Prelude.{ℕ, zero, suc, ◌+◌, ◌-◌, ◌*◌, ◌^◌, ◌≤◌, ◌<◌, Bool, cond, ◌≡◌, refl, List, [], ◌∷◌, eqb, leb, ℤ, pos, negsuc, nat_abs, ◌⊎◌}
+use Rattle.std.specs.Prelude.{ℕ, zero, suc, ◌+◌, ◌*◌, ◌^◌, ◌≤◌, ◌<◌, Bool, cond, ◌≡◌, refl, List, [], ◌∷◌, eqb, leb, ℤ, pos, negsuc, nat_abs, ◌⊎◌}
 use Rattle.std.proofs.Math.Bool.{true, false}
 use Rattle.std.proofs.Common.{sym, ap, ◌∙◌, arith, inl, inr, ⊎_elim, eq-eqb, ne_eqb, leb-true}
 use Rattle.std.specs.Int.Signed.{le_z}

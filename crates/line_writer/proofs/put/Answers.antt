@@ -1,5 +1,4 @@
 -- `line_writer::put` meets its contract. Assumes nothing.
-use borrow.Author.Rules.{rules}
 use Rattle.text.specs.laws.Putting.{put_next, put_full}
 use Rattle.line_writer.proofs.put.Goals as goal
 

@@ -1,5 +1,4 @@
 -- `line_writer::put_amount` meets its contract. Assumes nothing.
-use borrow.Author.Rules.{rules}
 use Rattle.text.specs.laws.Putting.{then}
 use Rattle.line_writer.proofs.put_amount.Goals as goal
 

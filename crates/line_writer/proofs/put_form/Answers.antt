@@ -1,5 +1,4 @@
 -- `line_writer::put_form` meets its contract. Assumes nothing.
-use borrow.Author.Rules.{rules}
 use Rattle.text.specs.laws.Putting.{then, same_bytes}
 use Rattle.line_writer.specs.laws.Pieces.{form-none, form-third}
 use Rattle.line_writer.proofs.put_form.Goals as goal

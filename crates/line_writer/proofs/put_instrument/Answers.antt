@@ -2,7 +2,6 @@
 use native.Mathlib.Omega.{arith}
 use Rattle.names.specs.Names.{instrument_name}
 use Rattle.names.specs.laws.Names.{instrument-length, name-short, name-bytes}
-use borrow.Author.Rules.{rules}
 use Rattle.text.specs.laws.Putting.{same_bytes}
 use Rattle.line_writer.proofs.put_instrument.Goals as goal
 

@@ -1,10 +1,9 @@
 -- `line_writer::put_number` meets its contract. Assumes nothing.
 use native.Mathlib.Omega.{arith}
 use Rattle.text.specs.laws.Decimal.{spelled}
-use borrow.Author.Rules.{rules}
 use Rattle.text.specs.laws.Putting.{same_bytes}
 use Rattle.line_writer.proofs.put_number.Goals as goal
 
 pub returns : goal.returns
 returns c =
-    same_bytes (spelled _ _ _ (omega (arith, c.ranges.n.fits)) c.decimal-k.ensures.1) c.put.ensures
+    same_bytes (spelled _ _ _ (omega arith) (c.decimal-k.ensures.len, c.decimal-k.ensures.digits)) c.put.ensures

@@ -1,5 +1,4 @@
 -- `line_writer::put_previous` meets its contract. Assumes nothing.
-use borrow.Author.Rules.{rules}
 use Rattle.text.specs.laws.Putting.{then, same_bytes}
 use Rattle.line_reader.specs.laws.Pieces.{previous-line}
 use Rattle.tape.specs.Tape.{line_text}

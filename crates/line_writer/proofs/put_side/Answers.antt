@@ -1,5 +1,4 @@
 -- `line_writer::put_side` meets its contract. Assumes nothing.
-use borrow.Author.Rules.{rules}
 use Rattle.text.specs.laws.Putting.{same_bytes}
 use Rattle.line_writer.specs.laws.Pieces.{side-there, side-absent}
 use Rattle.line_writer.proofs.put_side.Goals as goal

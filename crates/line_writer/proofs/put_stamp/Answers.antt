@@ -1,5 +1,4 @@
 -- `line_writer::put_stamp` meets its contract. Assumes nothing.
-use borrow.Author.Rules.{rules}
 use Rattle.text.specs.laws.Putting.{then}
 use Rattle.line_writer.proofs.put_stamp.Goals as goal
 

@@ -2,7 +2,6 @@
 -- the pieces that were put, as one text behind no bytes
 use mathlib.Core.Path.{◌≡◌, ◌∙◌}
 use mathlib.Core.List.{[], append_assoc}
-use borrow.Author.Rules.{rules}
 use Rattle.text.specs.Held.{Has, held, ◌⊕◌}
 use Rattle.text.specs.laws.Held.{⊕-⊕, empty_holds, whole}
 use Rattle.price_rules.specs.Says.{closed_says}

@@ -1,6 +1,5 @@
 -- `list::closing_list` meets its contract. Assumes nothing.
 use mathlib.Core.Path.{◌∙◌}
-use borrow.Author.Rules.{rules}
 use Rattle.list.proofs.closing_list.Goals as goal
 
 pub returns : goal.returns

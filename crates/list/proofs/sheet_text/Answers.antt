@@ -3,7 +3,6 @@
 use mathlib.Core.Path.{◌≡◌, sym, ap, ◌∙◌}
 use mathlib.Core.List.{[], ◌∷◌}
 use native.Mathlib.Omega.{arith}
-use borrow.Author.Rules.{rules}
 use Rattle.text.specs.Held.{Has, held, ◌⊕◌}
 use Rattle.text.specs.laws.Held.{⊕-⊕, empty_holds, whole}
 use Rattle.names.specs.Names.{too_long_name}

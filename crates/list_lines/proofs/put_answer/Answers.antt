@@ -1,6 +1,5 @@
 -- `list_lines::put_answer` meets its contract. Assumes nothing.
 use mathlib.Core.Path.{◌∙◌}
-use borrow.Author.Rules.{rules}
 use Rattle.text.specs.laws.Held.{⊕-⊕}
 use Rattle.list_lines.proofs.put_answer.Goals as goal
 

@@ -1,6 +1,5 @@
 -- `list_lines::put_line` meets its contract. Assumes nothing.
 use mathlib.Core.List.{append_assoc}
-use borrow.Author.Rules.{rules}
 use Rattle.text.specs.laws.Held.{⊕-⊕}
 use Rattle.list_lines.specs.laws.Listing.{answer-line}
 use Rattle.list_lines.proofs.put_line.Goals as goal

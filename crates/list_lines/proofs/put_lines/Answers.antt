@@ -1,6 +1,5 @@
 -- `list_lines::put_lines` meets its contract. Assumes nothing.
 use mathlib.Core.List.{append_assoc, append-nil}
-use borrow.Author.Rules.{rules}
 use Rattle.text.specs.laws.Held.{⊕-⊕}
 use Rattle.list_lines.specs.Listing.{answer_lines}
 use Rattle.list_lines.proofs.put_lines.Goals as goal

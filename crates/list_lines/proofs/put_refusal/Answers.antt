@@ -1,5 +1,4 @@
 -- `list_lines::put_refusal` meets its contract. Assumes nothing.
-use borrow.Author.Rules.{rules}
 use Rattle.text.specs.laws.Held.{⊕-⊕}
 use Rattle.list_lines.proofs.put_refusal.Goals as goal
 

@@ -1,5 +1,4 @@
 -- `list_lines::put_two` meets its contract. Assumes nothing.
-use borrow.Author.Rules.{rules}
 use mathlib.Core.List.{append_assoc}
 use Rattle.text.specs.laws.Held.{⊕-⊕}
 use Rattle.list_lines.proofs.put_two.Goals as goal

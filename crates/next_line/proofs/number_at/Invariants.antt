@@ -1,6 +1,6 @@
--- `next_line::number_at` meets its contract: digit after digit. Assumes nothing.
-use Rattle.std.proofs.Common.{◌-◌, rules}
-use Rattle.next_line.specs.laws.Standing.{OnNumber, found_none, number-zero, number-start, number-end, number-full, number-most, number-wide, number_more, number-next}
+-- What holds as `next_line::number_at` walks the digits, and that it ends. Assumes nothing.
+use Rattle.std.proofs.Common.{◌-◌}
+use Rattle.next_line.specs.laws.Standing.{OnNumber}
 use Rattle.next_line.proofs.number_at.Given as goal
 
 abbrev pub invariant-loop-k : goal.invariant-loop-k

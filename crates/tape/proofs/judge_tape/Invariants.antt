@@ -1,9 +1,7 @@
--- `tape::judge_tape` meets its contract. Assumes nothing.
+-- What holds as `tape::judge_tape` walks the lines, and that it ends. Assumes nothing.
 use Prim.Native.Nat.{◌-◌}
 use lib.ListN.{length}
 use Rattle.tape.specs.laws.Track.{OnTape}
-use Rattle.tape.specs.laws.Track.{t-start, t-last, t-bad, t-stop, t-ends, t-next, t-less, t-counts}
-use borrow.Author.Rules.{rules}
 use Rattle.tape.proofs.judge_tape.Given as goal
 
 abbrev pub invariant-loop-field : goal.invariant-loop-field

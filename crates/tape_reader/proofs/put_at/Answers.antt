@@ -6,7 +6,6 @@ use mathlib.Core.List.{append_assoc}
 use mathlib.Core.Path.{◌≡◌, sym, ap, ◌∙◌}
 use native.Mathlib.Omega.{arith}
 use lib.ListN.{take, length-take, length-drop}
-use borrow.Author.Rules.{rules}
 use Rattle.tape_reader.proofs.put_at.Goals as goal
 
 pub put_field-requires : goal.put_field-requires

@@ -18,6 +18,9 @@ returns-in-Refused c =
     let a = c.args in
     line_refused a.text.now a.sheet.now c.judge_tape.ensures _ _ c.in-Refused.is
 
+pub put_sheet-requires : goal.put_sheet-requires
+put_sheet-requires c = search (fitting, rules)
+
 pub returns-else-sheet-len : goal.returns-else-sheet-len
 returns-else-sheet-len c =
     let a = c.args in

@@ -23,7 +23,6 @@ use Rattle.next_line.specs.laws.Next.{next_line, Goes, was-last, was_field, was-
 use Rattle.tape.specs.declared.Measured.{Measured}
 use Rattle.tape.specs.declared.Measured.TheVariants.{Bytes, Refused}
 use Rattle.filled_buffer.specs.declared.Filled.{Filled}
-use Rattle.filled_buffer.specs.declared.Filled.TheVariants as Filled
 use Rattle.filled_buffer.specs.Filling.{made, refused, in_room}
 use Rattle.filled_buffer.specs.laws.Filling.{Answers, answers}
 use Rattle.tape.specs.Tape.{LinesSay, tells, bad, say_line, say_lines, text_says, sheet_of, sheet_made, tape_to_sheet}

@@ -5,7 +5,7 @@
 --     there_and_back  and so for what both directions put into buffers with room
 --     back-and-there
 -- Assumes nothing.
-use Rattle.std.specs.Prelude.{ℕ, suc, ◌+◌, ◌-◌, ◌≤◌, ◌<◌, true, ◌≡◌, refl, List, [], ◌∷◌, ◌++◌, leb, length}
+use Rattle.std.specs.Prelude.{ℕ, suc, ◌+◌, ◌≤◌, ◌<◌, true, ◌≡◌, refl, List, [], ◌∷◌, ◌++◌, leb, length}
 use Rattle.std.proofs.Common.{sym, ap, ◌∙◌, subst, arith, length-append, eq-eqb, ne_eqb, le-leb, lt-ltb, leb-true}
 use Rattle.numerals.specs.laws.Numerals.{clash}
 use Rattle.wire.specs.Big.{Bytes}

@@ -1,7 +1,6 @@
 -- `tape_writer::has_room` meets its contract: by three bytes for each, or by measuring. Assumes nothing.
 use lib.Dec.{leb}
 use mathlib.Core.Path.{ap}
-use borrow.Author.Rules.{rules}
 use Rattle.tape_writer.specs.laws.Lining.{room-three}
 use Rattle.tape_writer.proofs.has_room.Goals as goal
 

@@ -1,7 +1,6 @@
--- `tape_writer::put_lines` meets its contract: each need is a law of the pass. Assumes nothing.
-use borrow.Author.Rules.{rules}
-use Rattle.sheet.specs.laws.Walk.{left, less-read}
-use Rattle.tape_writer.specs.laws.Lining.{Lining, line-start, line-length, line-stop, line-room, line-next}
+-- What holds as `tape_writer::put_lines` passes over the fields, and that it ends. Assumes nothing.
+use Rattle.sheet.specs.laws.Walk.{left}
+use Rattle.tape_writer.specs.laws.Lining.{Lining}
 use Rattle.tape_writer.proofs.put_lines.Given as goal
 
 abbrev pub invariant-loop-field : goal.invariant-loop-field

@@ -1,5 +1,4 @@
 -- `tape_writer::put_text` meets its contract. Assumes nothing.
-use borrow.Author.Rules.{rules}
 use Rattle.tape_writer.specs.laws.Lining.{text-fits, text-put, text-not}
 use Rattle.tape_writer.proofs.put_text.Goals as goal
 

@@ -1,5 +1,4 @@
 -- `tape_writer::sheet_to_tape` meets its contract: the sheet's own refusal, no room, or the text. Assumes nothing.
-use borrow.Author.Rules.{rules}
 use Rattle.sheet.specs.Fields.{fields_of}
 use Rattle.filled_buffer.specs.Filling.{made}
 use Rattle.filled_buffer.specs.laws.Filling.{judged-made, judged-refused}

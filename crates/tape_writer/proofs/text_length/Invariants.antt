@@ -1,8 +1,7 @@
--- `tape_writer::text_length` meets its contract: each need is a law of the pass. Assumes nothing.
-use borrow.Author.Rules.{rules}
-use Rattle.sheet.specs.laws.Walk.{left, less-read}
+-- What holds as `tape_writer::text_length` passes over the fields, and that it ends. Assumes nothing.
+use Rattle.sheet.specs.laws.Walk.{left}
 use Rattle.sheet.specs.laws.Passes.{Sofar}
-use Rattle.tape_writer.specs.laws.Lining.{text_long, len-start, len-stop, len-next, len-line, len-fits}
+use Rattle.tape_writer.specs.laws.Lining.{text_long}
 use Rattle.tape_writer.proofs.text_length.Given as goal
 
 abbrev pub invariant-loop-field : goal.invariant-loop-field

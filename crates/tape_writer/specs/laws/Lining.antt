@@ -1,5 +1,5 @@
 -- What holds as the lines of a sheet's fields are measured and put into the buffer, and what the answers of `sheet_to_tape` are. Assumes nothing.
-use Rattle.std.specs.Prelude.{ℕ, ◌+◌, ◌-◌, ◌*◌, ◌/◌, ◌≤◌, ◌<◌, Bool, true, false, ◌≡◌, List, [], ◌∷◌, ◌++◌, leb, length}
+use Rattle.std.specs.Prelude.{ℕ, ◌+◌, ◌*◌, ◌/◌, ◌≤◌, ◌<◌, Bool, true, false, ◌≡◌, List, [], ◌∷◌, ◌++◌, leb, length}
 use Rattle.std.proofs.Math.Path.{refl}
 use Rattle.std.proofs.Common.{sym, ap, ◌∙◌, append_assoc, append-nil, arith, le-div_iff_mul-le, length-append, le-leb, leb-true, Fits}
 use Rattle.std.specs.Int.{w64}
@@ -21,7 +21,6 @@ use Rattle.sheet.specs.Judgement.{accepts, judge_sheet, judged_says}
 use Rattle.sheet.specs.laws.Accepted.{accepted-sound, accepted-small}
 use Rattle.sheet.specs.laws.Passes.{Sofar, sofar-start, sofar-stop, sofar-next, sofar-here}
 use Rattle.filled_buffer.specs.declared.Filled.{Filled}
-use Rattle.filled_buffer.specs.declared.Filled.TheVariants as Filled
 use Rattle.filled_buffer.specs.Filling.{made, refused, in_room}
 use Rattle.filled_buffer.specs.laws.Filling.{Answers, answers}
 use Rattle.tape.specs.Tape.{line_text, text_of}

@@ -1,0 +1,15 @@
+-- `line_reader::of_five` meets its contract. Assumes nothing.
+use Rattle.line_reader.specs.laws.Cases.{five-trade, five-quote, five-other}
+use borrow.Author.Rules.{rules}
+use Rattle.line_reader.proofs.of_five.Goals as goal
+
+ruleset reading = (five-trade, five-quote, five-other, rules)
+
+pub returns-then-is_name : goal.returns-then-is_name
+returns-then-is_name c = search reading
+
+pub returns-then-is_name-2 : goal.returns-then-is_name-2
+returns-then-is_name-2 c = search reading
+
+pub returns : goal.returns
+returns c = search reading
