@@ -1,4 +1,4 @@
-//! Links the library's archive, which is that of `rt staticlib bliskoru` on x86-64 and that of `bench/native`
+//! Links the library's archive, which is that of `rt lib` in crates/bliskoru on x86-64 and that of `bench/native`
 //! elsewhere, and the two C programs beside it, which are compiled here.
 
 use std::path::Path;
@@ -12,7 +12,7 @@ fn run(program: &str, words: &[&str]) {
 fn main() {
     let bench = Path::new(env!("CARGO_MANIFEST_DIR"));
     let x86_64 = std::env::var("CARGO_CFG_TARGET_ARCH").is_ok_and(|name| name == "x86_64");
-    let folder = bench.join(if x86_64 { "../target/staticlib" } else { "target/native" });
+    let folder = bench.join(if x86_64 { "../crates/bliskoru/out" } else { "target/native" });
     println!("cargo:rustc-link-search=native={}", folder.display());
     println!("cargo:rustc-link-lib=static=bliskoru");
     println!("cargo:rerun-if-changed={}", folder.join("libbliskoru.a").display());

@@ -2,7 +2,7 @@
  * Bliskoru for C and C++: a day sheet's closing list, its judgement and its six answers, single fields read and written, a text tape turned into
  * a sheet and back, and a sheet moved to the long header and back to the short one.
  *
- * Link with target/staticlib/libbliskoru.a, which `rt staticlib bliskoru` writes. It needs memcpy and memset and nothing else.
+ * Link with crates/bliskoru/out/libbliskoru.a, which `rt lib` in crates/bliskoru writes. It needs memcpy and memset and nothing else.
  * docs/SHEET.md has the numbers, ranges and layouts, docs/TAPE.md the lines of a text tape, docs/RULES.md the prices, docs/HOSTS.md how to embed
  * this.
  *

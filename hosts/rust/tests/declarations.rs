@@ -39,10 +39,13 @@ fn function_of(declared: &str) -> Function {
     }
 }
 
-/// The functions that the source exports.
+fn source() -> String {
+    squeezed(&text_of("crates/bliskoru/src/lib.rt"))
+}
+
+/// The functions that the source exports, each behind the attribute by which it keeps its name.
 fn exported() -> Vec<Function> {
-    let source = squeezed(&text_of("crates/bliskoru/src/lib.rt"));
-    source.split("pub extern \"C\" fn ").skip(1).map(function_of).collect()
+    source().split("#[unsafe(no_mangle)] pub extern \"C\" fn ").skip(1).map(function_of).collect()
 }
 
 /// The name of a number's type in C.
@@ -93,6 +96,8 @@ fn header() -> String {
 fn the_source_exports_fourteen_functions() {
     let functions = exported();
     assert_eq!(functions.len(), 14);
+    assert_eq!(source().matches("no_mangle").count(), 14);
+    assert_eq!(source().matches("extern \"C\"").count(), 14);
     assert!(functions.iter().all(|function| function.name.starts_with("bliskoru_")));
 }
 
