@@ -10,7 +10,8 @@ use lib.ListN.{length, take, drop}
 use lib.Seq.{take-append_seam}
 use borrow.Fn.Kinds.{ended_of}
 use contract.Lifetimes.{Lfts}
-use denote.Ref.{Bor}
+use denote.Bor.{Bor}
+use denote.MutBor.{MutBor}
 use denote.Triple.Clauses.{AtExit}
 use Rattle.wire.specs.Big.{Bytes}
 use Rattle.field.specs.declared.Form.{Form}
@@ -41,7 +42,7 @@ use Rattle.header_trips.specs.laws.Moved.{keeps, new-and-back, old-and-back}
 pub record ToNew (s b : List ℕ) (x : Filled) (after : List ℕ) : Type 0 where
   pub κs : Lfts 2
   pub sheet : Bor (List ℕ)
-  pub out : Bor (List ℕ)
+  pub out : MutBor (List ℕ)
   pub exit : AtExit (ended_of 2 to-newK.ps to-newK.r) κs
   pub permits : to-new.Post κs (sheet, (out, tt)) x exit
   pub holds : sheet.now ≡ s
@@ -52,7 +53,7 @@ pub record ToNew (s b : List ℕ) (x : Filled) (after : List ℕ) : Type 0 where
 pub record ToOld (s b : List ℕ) (x : Filled) (after : List ℕ) : Type 0 where
   pub κs : Lfts 2
   pub sheet : Bor (List ℕ)
-  pub out : Bor (List ℕ)
+  pub out : MutBor (List ℕ)
   pub exit : AtExit (ended_of 2 to-oldK.ps to-oldK.r) κs
   pub permits : to-old.Post κs (sheet, (out, tt)) x exit
   pub holds : sheet.now ≡ s

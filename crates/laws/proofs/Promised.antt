@@ -12,7 +12,7 @@ use mathlib.Core.Logic.{◌⊎◌}
 use lib.IntN.{ℤ}
 use borrow.Fn.Kinds.{ended_of}
 use contract.Lifetimes.{Lfts}
-use denote.Ref.{Bor}
+use denote.Bor.{Bor}
 use denote.Triple.Clauses.{AtExit}
 use Rattle.wire.specs.Big.{Bytes}
 use Rattle.field.specs.laws.Field.{clash}

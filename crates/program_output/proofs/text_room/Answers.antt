@@ -5,4 +5,4 @@ use lib.ListN.{length-replicate}
 use Rattle.program_output.proofs.text_room.Goals as goal
 
 pub returns : goal.returns
-returns c = (refl, length-replicate {A = ℕ} 3145729 0)
+returns c = record { value = refl; result_len = length-replicate {A = ℕ} 3145729 0 }
