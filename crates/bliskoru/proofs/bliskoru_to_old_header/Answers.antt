@@ -6,4 +6,6 @@ use Rattle.bliskoru.proofs.bliskoru_to_old_header.Goals as goal
 pub returns : goal.returns
 returns c =
     let a = c.args in
-    handed-over a.length.now a.at.now c.to_old_header.result _ c.hand_over.ensures c.to_old_header.ensures
+    let o = c.hand_over.ensures in
+    let h = handed-over a.length.now a.at.now c.to_old_header.result _ (o.value, (o.length_after, o.at_after)) c.to_old_header.ensures in
+    record { value = h.0; out_after = h.1.0; length_after = h.1.1.0; at_after = h.1.1.1 }

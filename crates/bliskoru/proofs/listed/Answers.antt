@@ -10,7 +10,7 @@ pub returns : goal.returns
 returns c =
     let a : to_z w64 (of_z w64 c.args.a.number) ≡ c.args.a.number = search rules in
     let b : to_z w64 (of_z w64 c.args.b.number) ≡ c.args.b.number = search rules in
-    let c : to_z w64 (of_z w64 c.args.c.number) ≡ c.args.c.number = search rules in
+    let third : to_z w64 (of_z w64 c.args.c.number) ≡ c.args.c.number = search rules in
     let d : to_z w64 (of_z w64 c.args.d.number) ≡ c.args.d.number = search rules in
     let e : to_z w64 (of_z w64 c.args.e.number) ≡ c.args.e.number = search rules in
-    rw ((cast-u32 c.ranges.tag).known, a, b, c, d, e)
+    rw ((cast-u32 c.ranges.tag).known, a, b, third, d, e)
