@@ -5,7 +5,7 @@ use borrow.Author.Rules.{rules}
 use Rattle.cases.proofs.take_sheets.Given as goal
 
 abbrev pub invariant-loop-at : goal.invariant-loop-at
-invariant-loop-at l = l.initial.at ≤ length l.output
+invariant-loop-at g l = l.at ≤ length l.stream
 
 abbrev pub decreases-loop-at : goal.decreases-loop-at
-decreases-loop-at l = length l.output - l.initial.at
+decreases-loop-at g l = length l.stream - l.at

@@ -5,7 +5,7 @@ use borrow.Author.Rules.{rules}
 use Rattle.field_cases.proofs.print_bytes.Given as goal
 
 abbrev pub invariant-loop-i : goal.invariant-loop-i
-invariant-loop-i l = l.initial.i ≤ length l.output
+invariant-loop-i g l = l.i ≤ length l.bytes
 
 abbrev pub decreases-loop-i : goal.decreases-loop-i
-decreases-loop-i l = length l.output - l.initial.i
+decreases-loop-i g l = length l.bytes - l.i

@@ -7,7 +7,7 @@ use borrow.Author.Rules.{rules}
 use Rattle.sheet_cases.proofs.take_lines.Given as goal
 
 abbrev pub invariant-loop-i : goal.invariant-loop-i
-invariant-loop-i l = (l.from ≤ length l.output) × (l.initial.i ≤ l.from)
+invariant-loop-i g l = (l.i ≤ length l.text) × (l.from ≤ l.i)
 
 abbrev pub decreases-loop-i : goal.decreases-loop-i
-decreases-loop-i l = length l.output - l.from
+decreases-loop-i g l = length l.text - l.i
