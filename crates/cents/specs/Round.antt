@@ -1,5 +1,5 @@
 -- RULES 8: N/D rounded to a step u, a half up. N is any whole number; D and u are above 0 in every law.
-use Rattle.std.specs.Prelude.{◌≡◌, ℕ, ◌+◌, ◌*◌, ◌≤◌, ℤ, pos, ◌+ℤ◌, ◌*ℤ◌, ◌≤ℤ◌}
+use Rattle.std.specs.Prelude.{◌≡◌, ℕ, ◌*◌, ℤ, pos, ◌+ℤ◌, ◌*ℤ◌, ◌≤ℤ◌}
 use Rattle.std.specs.Int.Signed.{shr_z}
 
 -- z / m rounded down, below zero too: the number of whole m in z

@@ -83,7 +83,7 @@ fn turn_of(read: Read, body: &[u8], next: usize) -> Turn
     }
 }
 
-// One turn of a walk, through a walker: its parameters are plain, so a caller that keeps the place needs no walk by hand.
+// One turn of a walk, through a walker, for a caller that keeps the place itself.
 pub fn turn_at(sheet: &[u8], at: usize) -> Turn
     ensures { turn_says result ≡ turn_at sheet.now at }
 {

@@ -16,12 +16,11 @@ use Rattle.std.proofs.lemmas.Bool.{lt-leb}
 use Rattle.field.specs.declared.Price.{Price}
 use Rattle.field.specs.declared.Field.{Field}
 use Rattle.field.specs.declared.Field.TheVariants.{Header, PreviousClose, Trade, Quote, End}
-use Rattle.field.specs.Judging.{has_bid, has_offer}
 use Rattle.market.specs.Market.{window_length}
 use Rattle.indicator.specs.declared.Side.{Side}
 use Rattle.indicator.specs.declared.Side.TheVariants.{Absent, At}
 use Rattle.indicator.specs.declared.Indicator.{Indicator}
-use Rattle.indicator.specs.Indicator.{side_of, empty, present, cents_of, after_trade, after_close, after_quote, else_at, value_of, taken, stamp, after_from, after, cents_at, twap_sum, has_reference}
+use Rattle.indicator.specs.Indicator.{empty, present, cents_of, after_trade, after_close, after_quote, else_at, value_of, taken, stamp, after_from, after, cents_at, twap_sum, has_reference}
 use Rattle.indicator.specs.laws.Sums.{sum-const}
 use Rattle.indicator.specs.laws.Indicator.{Rising, Counted, all_taken, told_by, Latest, none, quoted, later_of, latest_quote, Book, book_of, book_by, Parted}
 

@@ -1,5 +1,5 @@
 -- A sheet as a list: what stands at byte 0, at the place behind that, and so on. Any bytes have such a list; its last entry is a refusal.
-use Rattle.std.specs.Prelude.{ℕ, zero, suc, ◌+◌, ◌-◌, List, [], ◌∷◌, ◌++◌, length}
+use Rattle.std.specs.Prelude.{ℕ, zero, suc, ◌-◌, List, [], ◌∷◌, ◌++◌, length}
 use Rattle.field.specs.declared.Field.{Field}
 use Rattle.field.specs.Layout.{field_bytes}
 use Rattle.field.specs.Said.{Said, gives, refuses}

@@ -1,15 +1,9 @@
 -- Of an accepted sheet: its metal has a row, and so has the instrument of each of its fields. Assumes nothing.
-use Rattle.std.specs.Prelude.{ℕ, ◌+◌, ◌≤◌, ◌<◌, ◌≡◌, Bool, true, List, [], ◌∷◌, leb, length}
-use Rattle.std.proofs.Common.{arith, leb→le}
+use Rattle.std.specs.Prelude.{ℕ, ◌≡◌, List, [], ◌∷◌}
 use Rattle.field.specs.declared.Field.{Field}
 use Rattle.field.specs.declared.Field.TheVariants.{Header, PreviousClose, Trade, Quote, End}
-use Rattle.field.specs.Judging.{alone, third_of, header_right}
-use Rattle.field.proofs.Sound.{Sound, metal-range}
-use Rattle.market.specs.declared.Metal.{Metal}
-use Rattle.market.specs.Market.{metals, metal_of, instruments, step_of, window_length}
-use Rattle.market.specs.laws.Rows.{window-length}
-use Rattle.market.specs.laws.Rules.{step-some}
-use Rattle.market.specs.laws.Table.{both, both_left, both_right, from_one}
+use Rattle.field.specs.Judging.{alone, third_of}
+use Rattle.field.proofs.Sound.{Sound}
 use Rattle.sheet.specs.declared.Day.{Day}
 use Rattle.sheet.specs.Fields.{fields_of, Each}
 use Rattle.sheet.specs.Judgement.{accepts, judge_sheet}

@@ -1,7 +1,6 @@
 -- `admit::admit` meets its contract. Assumes nothing.
 use Rattle.admit.specs.laws.Admitting.{admit-fine, admit-not, passed}
 use mathlib.Core.Path.{sym, ◌∙◌}
-use borrow.Author.Rules.{rules}
 use Rattle.admit.proofs.admit.Goals as goal
 
 pub returns-then-found-ne-FINE : goal.returns-then-found-ne-FINE

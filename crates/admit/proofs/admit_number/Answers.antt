@@ -1,7 +1,6 @@
 -- `admit::admit_number` meets its contract. Assumes nothing.
 use mathlib.Core.Path.{◌∙◌}
 use Rattle.admit.specs.Admitting.{admit_number}
-use borrow.Author.Rules.{rules}
 use Rattle.admit.proofs.admit_number.Goals as goal
 
 pub returns : goal.returns

@@ -1,5 +1,4 @@
 -- `admit::before_of` meets its contract. Assumes nothing.
-use borrow.Author.Rules.{rules}
 use Rattle.admit.proofs.before_of.Goals as goal
 
 pub returns : goal.returns

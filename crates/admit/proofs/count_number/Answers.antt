@@ -1,6 +1,5 @@
 -- `admit::count_number` meets its contract. Assumes nothing.
 use Rattle.admit.specs.Admitting.{count_number}
-use borrow.Author.Rules.{rules}
 use Rattle.admit.proofs.count_number.Goals as goal
 
 pub returns-in-End : goal.returns-in-End

@@ -1,6 +1,5 @@
 -- `admit::is_placed` meets its contract. Assumes nothing.
 use Rattle.admit.specs.Admitting.{placed}
-use borrow.Author.Rules.{rules}
 use Rattle.admit.proofs.is_placed.Goals as goal
 
 pub returns-in-Header : goal.returns-in-Header

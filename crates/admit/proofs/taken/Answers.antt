@@ -1,6 +1,5 @@
 -- `admit::taken` meets its contract. Assumes nothing.
 use Rattle.admit.specs.Admitting.{admitted}
-use borrow.Author.Rules.{rules}
 use Rattle.admit.proofs.taken.Goals as goal
 
 pub returns-in-Header : goal.returns-in-Header

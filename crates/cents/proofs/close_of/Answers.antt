@@ -1,7 +1,6 @@
 -- `cents::close_of` meets its contract: each return is a case of `close_of`.
 -- Assumes nothing.
 use native.Mathlib.Omega.{arith}
-use borrow.Author.Rules.{rules}
 use Rattle.cents.specs.laws.Close.{close-in, close-above, close-zero}
 use Rattle.cents.proofs.close_of.Goals as goal
 

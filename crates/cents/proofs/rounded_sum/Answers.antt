@@ -2,7 +2,6 @@
 -- Assumes nothing.
 use native.Mathlib.Nat.{zero-mul, mul-zero}
 use native.Mathlib.Omega.{arith}
-use borrow.Author.Rules.{rules}
 use Rattle.cents.specs.laws.Close.{round-none, round-above, round-steps, round-cents, steps-le}
 use Rattle.cents.proofs.rounded_sum.Goals as goal
 

@@ -3,7 +3,6 @@
 use Prim.Native.Nat.{◌*◌}
 use native.Mathlib.Nat.{div-le_self}
 use native.Mathlib.Omega.{arith}
-use borrow.Author.Rules.{rules}
 use Rattle.cents.specs.laws.Close.{nearest-down, nearest-up}
 use Rattle.cents.proofs.steps.Goals as goal
 

@@ -5,9 +5,7 @@ use Prim.Native.Nat.{ℕ}
 use Rattle.std.proofs.Common.{cond, eqb}
 use Rattle.market.specs.Market.{metal_of, contract_of, step_of}
 use Rattle.market.specs.declared.Contract.{Contract}
-use Rattle.market.specs.laws.Rules.{Ruled}
 use Rattle.contract_price.specs.laws.Numbers.{few, row-built, row_of, row-ruled}
-use borrow.Author.Rules.{rules}
 use Rattle.contract_price.proofs.answer_by_row.Goals as goal
 
 -- the step is the contract's

@@ -14,7 +14,6 @@ use Rattle.contract_price.specs.laws.Numbers.{summed-small}
 use mathlib.Core.Path.{◌≡◌, sym, ap, ◌∙◌}
 use Rattle.twap.specs.declared.Summed.{Summed}
 use Rattle.twap.specs.Span.{span_says}
-use borrow.Author.Rules.{rules}
 use Rattle.contract_price.proofs.indicator_mean.Goals as goal
 
 -- the sum is read as it is

@@ -2,8 +2,7 @@
 use mathlib.Core.Path.{◌≡◌, ◌∙◌, sym, ap}
 use mir.Syntax.{w64}
 use mir.Val.{to_z, of_z}
-use Rattle.cents.specs.Round.{round}
-use Rattle.cents.specs.Close.{means, close_of}
+use Rattle.cents.specs.Close.{means}
 use Rattle.price_rules.specs.Closing.{closed, answered}
 use borrow.Author.Rules.{rules}
 use Rattle.contract_price.proofs.rounded.Goals as goal

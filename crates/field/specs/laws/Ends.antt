@@ -2,16 +2,10 @@
 --     price-ends    a price is right where it lies between its ends
 --     both-sides    where the bid is not above the offer, one end is asked of each side
 -- Assumes nothing.
-use Rattle.std.specs.Prelude.{ℕ, ◌≤◌, ◌≡◌, Bool, true, false, eqb, ℤ, pos, negsuc, neg_ℤ}
-use Rattle.std.proofs.Math.Path.{refl}
-use Rattle.std.proofs.Common.{sym, ◌∙◌, leb-true, le-leb, eq-eqb, ne_eqb}
-use native.Mathlib.Omega.{arith}
+use Rattle.std.specs.Prelude.{ℕ, Bool, true, false, eqb, pos, neg_ℤ}
 use Rattle.std.specs.Int.Signed.{le_z}
 use Rattle.field.specs.declared.Price.{Price}
-use Rattle.field.specs.declared.Field.TheVariants.{Quote}
-use Rattle.market.specs.Market.{is_in, barred}
-use Rattle.field.specs.Judging.{fine, both, pick, cents_within, instrument_right, price_right, alone, judge}
-use Rattle.field.specs.laws.Field.{clash, both_true, both-holds}
+use Rattle.field.specs.Judging.{both, instrument_right}
 
 -- by whether the instrument is the outright
 abbrev pub lowest_of : Bool → Price

@@ -4,7 +4,6 @@ use Rattle.field.specs.laws.Field.{ReadOk, read_ok, Inside, shape-inside, body-g
 use Rattle.field.specs.Said.{read_says}
 use native.Mathlib.Omega.{arith}
 use mathlib.Core.Path.{sym, ap, ◌∙◌}
-use borrow.Author.Rules.{rules}
 use Rattle.field_reader.proofs.field_body.Goals as goal
 
 known : (c : goal.In-Field) → ReadOk c.args.sheet.now c.args.at c.in-Field.field-0 c.in-Field.next

@@ -1,7 +1,6 @@
 -- `field_reader::head_number` meets its contract. Assumes nothing.
 use Rattle.field.specs.laws.Field.{head-short, head-there}
 use mathlib.Core.Path.{sym}
-use borrow.Author.Rules.{rules}
 use Rattle.field_reader.proofs.head_number.Goals as goal
 
 pub returns-then-rest-lt3 : goal.returns-then-rest-lt3

@@ -1,6 +1,5 @@
 -- `field_reader::quote_number` meets its contract. Assumes nothing.
 use mathlib.Core.Path.{◌∙◌}
-use borrow.Author.Rules.{rules}
 use Rattle.field_reader.proofs.quote_number.Goals as goal
 
 pub returns-then-sides-eq3 : goal.returns-then-sides-eq3

@@ -1,10 +1,8 @@
 -- `field_reader::shape_at` meets its contract. Assumes nothing.
 -- where the head earned no number, head and body are in the sheet
-use Rattle.field.specs.laws.Field.{Headed, headed, part-is, body-long, shape-fine, shape-not}
-use lib.ListN.{get_or}
+use Rattle.field.specs.laws.Field.{headed, part-is, body-long, shape-fine, shape-not}
 use native.Mathlib.Omega.{arith}
 use mathlib.Core.Path.{sym, ◌∙◌}
-use borrow.Author.Rules.{rules}
 use Rattle.field_reader.proofs.shape_at.Goals as goal
 
 pub returns-then-found-ne-FINE : goal.returns-then-found-ne-FINE

@@ -1,6 +1,5 @@
 -- `field_reader::tagged_number` meets its contract. Assumes nothing.
 use mathlib.Core.Path.{◌∙◌}
-use borrow.Author.Rules.{rules}
 use Rattle.field_reader.proofs.tagged_number.Goals as goal
 
 pub returns : goal.returns

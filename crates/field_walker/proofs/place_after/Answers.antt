@@ -1,6 +1,5 @@
 -- `field_walker::place_after` meets its contract. Assumes nothing.
 use mathlib.Core.Path.{sym, ap, ◌∙◌}
-use borrow.Author.Rules.{rules}
 use Rattle.field.specs.Said.{read_says}
 use Rattle.field_walker.specs.Walking.{behind, place_after}
 use Rattle.field_walker.proofs.place_after.Goals as goal

@@ -1,6 +1,5 @@
 -- `field_writer::field_size` meets its contract. Assumes nothing.
 use mathlib.Core.Path.{◌∙◌}
-use borrow.Author.Rules.{rules}
 use Rattle.field_writer.proofs.field_size.Goals as goal
 
 pub returns : goal.returns

@@ -1,11 +1,10 @@
 -- `field_writer::write_field` meets its contract. Assumes nothing.
 use Rattle.raw_writer.proofs.Parts.{put-part}
-use Rattle.field.specs.laws.Field.{MayWrite, may_write, field-length, written-fine, written-not}
+use Rattle.field.specs.laws.Field.{may_write, field-length, written-fine, written-not}
 use Rattle.field.specs.Layout.{field_bytes}
-use lib.ListN.{length, length-take, length-drop}
+use lib.ListN.{length-take, length-drop}
 use native.Mathlib.Omega.{arith}
 use mathlib.Core.Path.{sym, ◌∙◌}
-use borrow.Author.Rules.{rules}
 use Rattle.field_writer.proofs.write_field.Goals as goal
 
 pub returns-then-found-ne-FINE : goal.returns-then-found-ne-FINE

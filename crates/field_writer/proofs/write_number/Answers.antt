@@ -1,7 +1,6 @@
 -- `field_writer::write_number` meets its contract. Assumes nothing.
 use mathlib.Core.Path.{◌∙◌}
 use Rattle.field.specs.Writing.{write_number}
-use borrow.Author.Rules.{rules}
 use Rattle.field_writer.proofs.write_number.Goals as goal
 
 pub returns : goal.returns

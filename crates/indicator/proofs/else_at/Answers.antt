@@ -1,5 +1,4 @@
 -- `indicator::else_at` meets its contract. Assumes nothing.
-use borrow.Author.Rules.{rules}
 use Rattle.indicator.proofs.else_at.Goals as goal
 
 pub returns-in-Absent : goal.returns-in-Absent

@@ -1,6 +1,5 @@
 -- `indicator::inside_book` meets its contract. Assumes nothing.
 use mathlib.Core.Path.{sym, ◌∙◌}
-use borrow.Author.Rules.{rules}
 use Rattle.indicator.proofs.inside_book.Goals as goal
 
 pub returns-then-is_below : goal.returns-then-is_below

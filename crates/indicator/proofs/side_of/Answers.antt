@@ -1,5 +1,4 @@
 -- `indicator::side_of` meets its contract. Assumes nothing.
-use borrow.Author.Rules.{rules}
 use Rattle.indicator.proofs.side_of.Goals as goal
 
 pub returns-then-present : goal.returns-then-present

@@ -1,7 +1,6 @@
 -- `indicator::take_field` meets its contract. Assumes nothing.
 use Rattle.indicator.specs.Indicator.{taken}
 use borrow.Author.Tests.{eq-eqb, ne_eqb}
-use borrow.Author.Rules.{rules}
 use Rattle.indicator.proofs.take_field.Goals as goal
 
 pub returns-then-of-instrument : goal.returns-then-of-instrument

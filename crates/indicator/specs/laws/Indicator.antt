@@ -6,23 +6,16 @@
 --     reference-told   13's words: a previous close, or a trade of the instrument by then
 --     book-latest      the book's words: the latest quote record by then, and empty where there is none
 -- Assumes nothing.
-use Rattle.std.specs.Prelude.{ℕ, suc, ◌+◌, ◌≤◌, ◌<◌, ◌≡◌, Bool, false, T, leb, eqb, pos, ◌*ℤ◌}
-use Rattle.std.proofs.Common.{zero-le, sym, subst, ◌∙◌, le_trans, le_refl, arith, le-leb, leb→le, le→leb}
-use Rattle.std.proofs.Math.Path.{refl, ap}
+use Rattle.std.specs.Prelude.{ℕ, suc, ◌≤◌, ◌≡◌, Bool, false, leb, eqb}
 use Rattle.std.proofs.Math.Bool.{true, cond}
 use mathlib.Core.List.{List, [], ◌∷◌, ◌++◌}
-use Rattle.std.proofs.Math.Decide.{dec_lt}
-use Rattle.std.proofs.lemmas.Bool.{lt-leb}
 use Rattle.field.specs.declared.Price.{Price}
 use Rattle.field.specs.declared.Field.{Field}
 use Rattle.field.specs.declared.Field.TheVariants.{Header, PreviousClose, Trade, Quote, End}
 use Rattle.field.specs.Judging.{has_bid, has_offer}
-use Rattle.market.specs.Market.{window_length}
 use Rattle.indicator.specs.declared.Side.{Side}
-use Rattle.indicator.specs.declared.Side.TheVariants.{Absent, At}
 use Rattle.indicator.specs.declared.Indicator.{Indicator}
-use Rattle.indicator.specs.Indicator.{side_of, empty, present, cents_of, after_trade, after_close, after_quote, else_at, value_of, taken, stamp, after_from, after, cents_at, twap_sum, has_reference}
-use Rattle.indicator.specs.laws.Sums.{sum-const}
+use Rattle.indicator.specs.Indicator.{side_of, taken, stamp}
 
 -- previous closes before records, whose times never fall, from t on
 abbrev pub Rising : ℕ → List Field → Type 0

@@ -1,5 +1,4 @@
 -- `market::has_bit` meets its contract. Assumes nothing.
-use borrow.Author.Rules.{rules}
 use Rattle.market.specs.laws.Rows.{bit-small}
 use Rattle.market.proofs.has_bit.Goals as goal
 

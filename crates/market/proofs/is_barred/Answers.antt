@@ -2,7 +2,6 @@
 use mathlib.Core.Path.{◌∙◌}
 use native.Mathlib.Omega.{arith}
 use Rattle.market.specs.laws.Rows.{barred-row, barred-none, barred-above}
-use borrow.Author.Rules.{rules}
 use Rattle.market.proofs.is_barred.Goals as goal
 
 pub returns-then-third-le2 : goal.returns-then-third-le2

@@ -3,7 +3,6 @@ use mathlib.Core.Path.{◌≡◌, sym}
 use native.Mathlib.Omega.{arith}
 use Rattle.market.specs.Market.{marked}
 use Rattle.market.specs.laws.Rows.{marked-at, marked-above}
-use borrow.Author.Rules.{rules}
 use Rattle.market.proofs.is_marked.Goals as goal
 
 pub returns-then-instrument-le16 : goal.returns-then-instrument-le16

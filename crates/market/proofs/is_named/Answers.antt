@@ -1,7 +1,6 @@
 -- `market::is_named` meets its contract: the table has the row, or it has none. Assumes nothing.
 use native.Mathlib.Omega.{arith}
 use Rattle.market.specs.laws.Rows.{named-row, named_none, named-above}
-use borrow.Author.Rules.{rules}
 use Rattle.market.proofs.is_named.Goals as goal
 
 pub returns-then-third-le2 : goal.returns-then-third-le2

@@ -1,6 +1,5 @@
 -- `market::leg_by` meets its contract: which of the two is priced later. Assumes nothing.
 use borrow.Author.Tests.{lt-ltb, le-ltb}
-use borrow.Author.Rules.{rules}
 use Rattle.market.proofs.leg_by.Goals as goal
 
 pub returns-then-b-a : goal.returns-then-b-a

@@ -2,7 +2,6 @@
 use native.Mathlib.Omega.{arith}
 use Rattle.market.specs.Market.{leg_of}
 use Rattle.market.specs.laws.Rows.{leg-none}
-use borrow.Author.Rules.{rules}
 use Rattle.market.proofs.leg_of.Goals as goal
 
 pub returns-then-i-lt12 : goal.returns-then-i-lt12

@@ -3,7 +3,6 @@ use mathlib.Core.Path.{◌≡◌}
 use native.Mathlib.Omega.{arith}
 use Rattle.market.specs.Market.{metal_of}
 use Rattle.market.specs.laws.Rows.{metal-row, metal-none}
-use borrow.Author.Rules.{rules}
 use Rattle.market.proofs.metal_of.Goals as goal
 
 pub returns-then-metal-le5 : goal.returns-then-metal-le5

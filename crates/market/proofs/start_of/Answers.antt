@@ -1,7 +1,6 @@
 -- `market::start_of` meets its contract. Assumes nothing.
 use mathlib.Core.Path.{◌∙◌}
 use Rattle.market.specs.laws.Rows.{start-in}
-use borrow.Author.Rules.{rules}
 use Rattle.market.proofs.start_of.Goals as goal
 
 pub returns : goal.returns

@@ -1,6 +1,5 @@
 -- `market::step_by` meets its contract. Assumes nothing.
 use borrow.Author.Tests.{eq-eqb, ne_eqb}
-use borrow.Author.Rules.{rules}
 use Rattle.market.proofs.step_by.Goals as goal
 
 pub returns-then-step-eq0 : goal.returns-then-step-eq0

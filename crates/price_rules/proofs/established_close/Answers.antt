@@ -2,7 +2,6 @@
 use mathlib.Core.Path.{sym}
 use native.Mathlib.Omega.{arith}
 use lib.ListN.{get_or-eq_default}
-use borrow.Author.Rules.{rules}
 use Rattle.price_rules.proofs.established_close.Goals as goal
 
 pub returns-else-c-closes : goal.returns-else-c-closes

@@ -4,7 +4,6 @@ use mir.Facts.{to_z-of_z}
 use mir.Syntax.{w64}
 use Rattle.cents.specs.laws.Whole.{same_at}
 use Rattle.price_rules.specs.laws.Adding.{base-small}
-use borrow.Author.Rules.{rules}
 use Rattle.price_rules.proofs.implied_price.Goals as goal
 
 pub apply-requires : goal.apply-requires

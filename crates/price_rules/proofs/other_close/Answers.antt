@@ -1,7 +1,6 @@
 -- `price_rules::other_close` meets its contract. Assumes nothing.
 use mathlib.Core.Path.{sym, ap, ◌∙◌}
 use Rattle.price_rules.specs.Closing.{base_of}
-use borrow.Author.Rules.{rules}
 use Rattle.price_rules.proofs.other_close.Goals as goal
 
 pub returns-in-Over : goal.returns-in-Over

@@ -1,10 +1,9 @@
 -- `price_rules::vwap_sum` meets its contract: the sum over the instruments so far, within its bound. Assumes nothing.
-use Prim.Native.Nat.{◌+◌, ◌-◌, ◌≤◌}
+use Prim.Native.Nat.{◌+◌}
 use mathlib.Core.Path.{◌≡◌, refl, ap, ◌∙◌}
 use native.Mathlib.Numerals.{add-one}
 use native.Mathlib.Omega.{arith}
-use borrow.Author.Rules.{rules}
-use Rattle.price_rules.specs.laws.Adding.{paired, sum_by, sum-next, Within, within_none, within-up, within_more}
+use Rattle.price_rules.specs.laws.Adding.{sum_by, sum-next, within_none, within-up, within_more}
 use Rattle.price_rules.proofs.vwap_sum.Goals as goal
 
 pub loop-k-init : goal.loop-k-init

@@ -1,10 +1,7 @@
 -- `price_rules::vwap_sum` meets its contract: the sum over the instruments so far, within its bound. Assumes nothing.
-use Prim.Native.Nat.{◌+◌, ◌-◌, ◌≤◌}
-use mathlib.Core.Path.{◌≡◌, refl, ap, ◌∙◌}
-use native.Mathlib.Numerals.{add-one}
-use native.Mathlib.Omega.{arith}
-use borrow.Author.Rules.{rules}
-use Rattle.price_rules.specs.laws.Adding.{paired, sum_by, sum-next, Within, within_none, within-up, within_more}
+use Prim.Native.Nat.{◌-◌, ◌≤◌}
+use mathlib.Core.Path.{◌≡◌}
+use Rattle.price_rules.specs.laws.Adding.{paired, sum_by, Within}
 use Rattle.price_rules.proofs.vwap_sum.Given as goal
 
 abbrev pub invariant-loop-k : goal.invariant-loop-k

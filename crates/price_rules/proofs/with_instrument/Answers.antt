@@ -15,7 +15,6 @@ use Rattle.cents.specs.laws.Whole.{Known, known_is, fits, back, plus, field, sam
 use Rattle.price_rules.specs.declared.Sum.{Sum}
 use Rattle.price_rules.specs.Closing.{implied_by}
 use Rattle.price_rules.specs.laws.Adding.{add_instrument, paired_at, implied-is, implied-size, lent-small}
-use borrow.Author.Rules.{rules}
 use Rattle.price_rules.proofs.with_instrument.Goals as goal
 
 abbrev times : List ℕ → ℕ → ℕ

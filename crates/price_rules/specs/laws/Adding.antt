@@ -3,7 +3,7 @@
 --     sum_by      the code's sum;  sum_is    it is the one of RULES 5
 --     Priceable, Bounded, Within     the sizes that keep every sum within 64 bits
 -- Assumes nothing.
-use Rattle.std.specs.Prelude.{ℕ, zero, suc, ◌+◌, ◌-◌, ◌*◌, ◌≤◌, ◌<◌, ◌≡◌, refl, Bool, true, false, List, [], ◌∷◌, ℤ, pos, nat_abs, ◌+ℤ◌, ◌*ℤ◌, get_or}
+use Rattle.std.specs.Prelude.{ℕ, zero, suc, ◌+◌, ◌*◌, ◌≤◌, ◌<◌, ◌≡◌, refl, Bool, true, false, List, [], ◌∷◌, ℤ, pos, nat_abs, ◌+ℤ◌, ◌*ℤ◌, get_or}
 use Rattle.std.proofs.Common.{sym, ap, ◌∙◌, add-mul, mul-zero, mul-add, mul-le-mul, add-one, arith}
 use Rattle.market.specs.declared.Leg.{Leg}
 use Rattle.market.specs.declared.Leg.TheVariants.{Outright, Over, Under}

@@ -1,7 +1,6 @@
 -- `raw_writer::put_body` meets its contract: in each arm the field is known. Assumes nothing.
 use Rattle.field.specs.Layout.{tag_of, body_bytes}
 use Rattle.raw_writer.proofs.Parts.{form-room, room-known, put-known}
-use borrow.Author.Rules.{rules}
 use Rattle.raw_writer.proofs.put_body.Goals as goal
 
 pub put_header-requires : goal.put_header-requires

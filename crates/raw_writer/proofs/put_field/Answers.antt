@@ -4,7 +4,6 @@ use Rattle.field.specs.laws.Field.{body-length}
 use Rattle.field.specs.Layout.{head_bytes, body_bytes, tag_of}
 use native.Mathlib.Omega.{arith}
 use mathlib.Core.Path.{refl}
-use borrow.Author.Rules.{rules}
 use Rattle.raw_writer.proofs.put_field.Goals as goal
 
 pub returns : goal.returns

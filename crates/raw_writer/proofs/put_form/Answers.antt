@@ -1,6 +1,5 @@
 -- `raw_writer::put_form` meets its contract: a short header has nothing more. Assumes nothing.
 use Rattle.raw_writer.proofs.Parts.{put-none, form-known}
-use borrow.Author.Rules.{rules}
 use Rattle.raw_writer.proofs.put_form.Goals as goal
 
 pub returns-in-Short : goal.returns-in-Short

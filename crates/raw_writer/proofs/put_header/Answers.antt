@@ -5,7 +5,6 @@ use mathlib.Core.List.{[], ◌∷◌, ◌++◌}
 use Rattle.raw_writer.proofs.Parts.{put-behind}
 use native.Mathlib.Omega.{arith}
 use mathlib.Core.Path.{refl}
-use borrow.Author.Rules.{rules}
 use Rattle.raw_writer.proofs.put_header.Goals as goal
 
 pub returns : goal.returns

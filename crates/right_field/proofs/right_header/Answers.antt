@@ -3,7 +3,6 @@ use native.Mathlib.Omega.{arith}
 use Rattle.field.specs.Layout.{field_of}
 use Rattle.field.specs.laws.Standing.{stands-whole}
 use Rattle.right_field.specs.laws.Right.{right-not, right_by}
-use borrow.Author.Rules.{rules}
 use Rattle.right_field.proofs.right_header.Goals as goal
 
 pub overflow_add-start : goal.overflow_add-start

@@ -1,7 +1,6 @@
 -- `sheet::at_end` meets its contract. Assumes nothing.
 use Rattle.sheet.specs.Judgement.{at_end}
 use borrow.Author.Tests.{eq-eqb, ne_eqb}
-use borrow.Author.Rules.{rules}
 use Rattle.sheet.proofs.at_end.Goals as goal
 
 pub returns-then-next-len : goal.returns-then-next-len

@@ -1,5 +1,4 @@
 -- `sheet::header_form` meets its contract. Assumes nothing.
-use borrow.Author.Rules.{rules}
 use borrow.Author.Tests.{eq-eqb, ne_eqb}
 use Rattle.sheet.specs.laws.Past.{form_in}
 use Rattle.sheet.proofs.header_form.Goals as goal

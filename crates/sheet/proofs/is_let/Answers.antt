@@ -1,6 +1,5 @@
 -- `sheet::is_let` meets its contract. Assumes nothing.
 use mathlib.Core.Path.{◌∙◌}
-use borrow.Author.Rules.{rules}
 use Rattle.sheet.proofs.is_let.Goals as goal
 
 pub returns : goal.returns

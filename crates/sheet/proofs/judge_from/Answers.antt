@@ -1,7 +1,7 @@
 -- `sheet::judge_from` meets its contract: each need is a law of the loop, whose premises `search` finds. Assumes nothing.
 use borrow.Author.Rules.{rules}
-use Rattle.sheet.specs.laws.Walk.{left, less-read}
-use Rattle.sheet.specs.laws.Track.{OnTrack, at-refusal, at_room, at-stop, at_last, at_next}
+use Rattle.sheet.specs.laws.Walk.{less-read}
+use Rattle.sheet.specs.laws.Track.{at-refusal, at_room, at-stop, at_last, at_next}
 use Rattle.sheet.proofs.judge_from.Goals as goal
 
 ruleset judging = (at-refusal, at_room, at-stop, at_last, at_next, less-read, rules)

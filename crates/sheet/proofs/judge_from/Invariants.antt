@@ -1,7 +1,6 @@
 -- `sheet::judge_from` meets its contract: each need is a law of the loop, whose premises `search` finds. Assumes nothing.
-use borrow.Author.Rules.{rules}
-use Rattle.sheet.specs.laws.Walk.{left, less-read}
-use Rattle.sheet.specs.laws.Track.{OnTrack, at-refusal, at_room, at-stop, at_last, at_next}
+use Rattle.sheet.specs.laws.Walk.{left}
+use Rattle.sheet.specs.laws.Track.{OnTrack}
 use Rattle.sheet.proofs.judge_from.Given as goal
 
 abbrev pub invariant-loop-found : goal.invariant-loop-found

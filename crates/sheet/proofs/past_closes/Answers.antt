@@ -1,8 +1,7 @@
 -- `sheet::past_closes` meets its contract: each need is a law of the loop. Assumes nothing.
 use borrow.Author.Rules.{rules}
 use native.Mathlib.Omega.{arith}
-use Rattle.sheet.specs.laws.Walk.{left}
-use Rattle.sheet.specs.laws.Past.{Opened, right-whole, close-room, close-next, close-less}
+use Rattle.sheet.specs.laws.Past.{right-whole, close-room, close-next, close-less}
 use Rattle.sheet.proofs.past_closes.Goals as goal
 
 ruleset closing = (close-room, close-next, close-less, rules)

@@ -1,8 +1,6 @@
 -- `sheet::past_closes` meets its contract: each need is a law of the loop. Assumes nothing.
-use borrow.Author.Rules.{rules}
-use native.Mathlib.Omega.{arith}
 use Rattle.sheet.specs.laws.Walk.{left}
-use Rattle.sheet.specs.laws.Past.{Opened, right-whole, close-room, close-next, close-less}
+use Rattle.sheet.specs.laws.Past.{Opened}
 use Rattle.sheet.proofs.past_closes.Given as goal
 
 abbrev pub invariant-loop-instrument : goal.invariant-loop-instrument

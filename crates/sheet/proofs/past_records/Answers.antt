@@ -1,7 +1,6 @@
 -- `sheet::past_records` meets its contract: each need is a law of the loop. Assumes nothing.
 use borrow.Author.Rules.{rules}
-use Rattle.sheet.specs.laws.Walk.{left}
-use Rattle.sheet.specs.laws.Past.{Nearly, record-room, record-fits, record-less, record-whole, record-next}
+use Rattle.sheet.specs.laws.Past.{record-room, record-fits, record-less, record-whole, record-next}
 use Rattle.sheet.proofs.past_records.Goals as goal
 
 ruleset passing = (record-room, record-fits, record-less, record-whole, record-next, rules)

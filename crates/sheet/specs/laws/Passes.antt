@@ -1,7 +1,7 @@
 -- A pass over a sheet's bytes that reads by `shape_at` until it refuses, and makes anything of the fields so far: the loop's invariant as a
 -- record, `Sofar`, and a law for each place of the loop. A pass cites them at what it makes of the fields.
 -- Assumes nothing.
-use Rattle.std.specs.Prelude.{ℕ, ◌+◌, ◌≤◌, ◌≡◌, refl, List, [], ◌∷◌, ◌++◌, length}
+use Rattle.std.specs.Prelude.{ℕ, ◌≤◌, ◌≡◌, refl, List, [], ◌∷◌, ◌++◌, length}
 use Rattle.std.proofs.Common.{sym, ◌∙◌, ap, append_assoc, append-nil, arith, length-append}
 use Rattle.field.specs.declared.Field.{Field}
 use Rattle.field.specs.declared.Read.{Read}

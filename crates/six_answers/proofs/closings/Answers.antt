@@ -1,11 +1,10 @@
 -- `six_answers::closings` meets its contract. Assumes nothing.
 -- the sheet is (sym as.totals-traded.ensures.judged ∙ ap judged_says as.in-Accepted.is) it was judged
-use mathlib.Core.Path.{◌≡◌, sym, ap, ◌∙◌}
+use mathlib.Core.Path.{sym, ap, ◌∙◌}
 use Rattle.sheet.specs.Fields.{fields_of}
-use Rattle.sheet.specs.Judgement.{accepts, judge_sheet, judged_says}
+use Rattle.sheet.specs.Judgement.{judged_says}
 use Rattle.trades.specs.Trades.{totals_by}
 use Rattle.price_rules.specs.Closing.{six, answers_by, answers_of}
-use borrow.Author.Rules.{rules}
 use Rattle.six_answers.proofs.closings.Goals as goal
 
 pub price_all-requires : goal.price_all-requires

@@ -1,9 +1,8 @@
 -- `six_answers::lots_of` meets its contract: the first i are filled in. Assumes nothing.
-use Prim.Native.Nat.{◌-◌, ◌≤◌}
 use mathlib.Core.Path.{◌≡◌, refl}
 use native.Mathlib.Omega.{arith}
 use lib.ListN.{length}
-use Rattle.six_answers.specs.laws.Apart.{lots_only, Filled, filled_none, filled_more, filled-all}
+use Rattle.six_answers.specs.laws.Apart.{lots_only, filled_none, filled_more, filled-all}
 use borrow.Author.Rules.{rules}
 use Rattle.six_answers.proofs.lots_of.Goals as goal
 

@@ -1,7 +1,6 @@
 -- `six_answers::lots_over` meets its contract: the sum is that of the instruments before i. Assumes nothing.
 use Prim.Native.Nat.{◌-◌}
-use borrow.Author.Rules.{rules}
-use Rattle.six_answers.specs.laws.Asking.{Adding, adding-none, adding-more, adding-all, adding-fits}
+use Rattle.six_answers.specs.laws.Asking.{Adding}
 use Rattle.six_answers.proofs.lots_over.Given as goal
 
 abbrev pub invariant-loop-i : goal.invariant-loop-i

@@ -1,6 +1,5 @@
 -- `six_answers::price_all` meets its contract: lots and values apart are the book's totals. Assumes nothing.
 use Rattle.six_answers.specs.laws.Apart.{ready-apart}
-use borrow.Author.Rules.{rules}
 use Rattle.six_answers.proofs.price_all.Goals as goal
 
 pub price_in_order-six-requires : goal.price_in_order-six-requires

@@ -1,10 +1,7 @@
 -- `six_answers::some_ask` meets its contract: none of the contracts before this one asks. Assumes nothing.
-use Prim.Native.Nat.{◌-◌, ◌≤◌}
-use mathlib.Core.Path.{◌≡◌, sym, ◌∙◌}
-use mathlib.Core.Bool.{false}
-use borrow.Author.Rules.{rules}
+use mathlib.Core.Path.{sym, ◌∙◌}
 use native.Mathlib.Omega.{arith}
-use Rattle.six_answers.specs.laws.Asking.{some_ask, none-asked, asked-not, asked_here, asked-all}
+use Rattle.six_answers.specs.laws.Asking.{none-asked, asked-not, asked_here, asked-all}
 use Rattle.six_answers.proofs.some_ask.Goals as goal
 
 pub loop-contract-init : goal.loop-contract-init

@@ -1,10 +1,8 @@
 -- `six_answers::values_of` meets its contract: the first i are filled in. Assumes nothing.
 use Prim.Native.Nat.{◌-◌, ◌≤◌}
 use mathlib.Core.Path.{◌≡◌}
-use native.Mathlib.Omega.{arith}
 use lib.ListN.{length}
-use Rattle.six_answers.specs.laws.Apart.{value_only, Filled, filled_none, filled_more, filled-all}
-use borrow.Author.Rules.{rules}
+use Rattle.six_answers.specs.laws.Apart.{value_only, Filled}
 use Rattle.six_answers.proofs.values_of.Given as goal
 
 abbrev pub invariant-loop-i : goal.invariant-loop-i

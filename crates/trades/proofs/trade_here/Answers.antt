@@ -2,7 +2,6 @@
 use mathlib.Core.Path.{ap, ◌∙◌}
 use Rattle.field.specs.Layout.{trade_of}
 use Rattle.field.specs.laws.Field.{part-is}
-use borrow.Author.Rules.{rules}
 use Rattle.trades.proofs.trade_here.Goals as goal
 
 pub returns : goal.returns

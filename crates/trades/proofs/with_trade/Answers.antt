@@ -1,7 +1,7 @@
 -- `trades::with_trade` meets its contract: lots and price fit their types, and the total has room for their product. Assumes nothing.
 -- the price, lots times price, and the total with that
 use borrow.Author.Rules.{rules}
-use lib.IntN.{ℤ, pos, ◌+ℤ◌, ◌*ℤ◌}
+use lib.IntN.{pos, ◌+ℤ◌, ◌*ℤ◌}
 use mir.Syntax.{w32, w64}
 use mir.Val.{SFits, to_z, of_z}
 use Rattle.cents.specs.laws.Whole.{Known, fits, back, plus, times, cast-u16, param, param-i32}

@@ -5,21 +5,20 @@
 --     lined            a right instrument has a row
 -- proofs/Accepted has them of an accepted sheet.
 -- Assumes nothing.
-use Rattle.std.specs.Prelude.{ℕ, ◌+◌, ◌≤◌, ◌<◌, ◌≡◌, Bool, true, List, [], ◌∷◌, leb, length}
+use Rattle.std.specs.Prelude.{ℕ, ◌+◌, ◌≤◌, ◌<◌, ◌≡◌, Bool, true, List, leb, length}
 use Rattle.std.proofs.Common.{arith, leb→le}
 use Rattle.field.specs.declared.Field.{Field}
 use Rattle.field.specs.declared.Field.TheVariants.{Header, PreviousClose, Trade, Quote, End}
-use Rattle.field.specs.Judging.{alone, third_of, header_right}
-use Rattle.field.proofs.Sound.{Sound, metal-range}
+use Rattle.field.specs.Judging.{third_of, header_right}
+use Rattle.field.proofs.Sound.{metal-range}
 use Rattle.market.specs.declared.Metal.{Metal}
 use Rattle.market.specs.Market.{metals, metal_of, instruments, step_of, window_length}
 use Rattle.market.specs.laws.Rows.{window-length}
 use Rattle.market.specs.laws.Rules.{step-some}
 use Rattle.market.specs.laws.Table.{both, both_left, both_right, from_one}
 use Rattle.sheet.specs.declared.Day.{Day}
-use Rattle.sheet.specs.Fields.{fields_of, Each}
 use Rattle.sheet.specs.Judgement.{accepts, judge_sheet}
-use Rattle.sheet.specs.laws.Accepted.{accepted-sound, accepted-right}
+use Rattle.sheet.specs.laws.Accepted.{accepted-right}
 
 -- ---- metals
 

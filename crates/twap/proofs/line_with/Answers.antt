@@ -1,9 +1,7 @@
 -- `twap::line_with` meets its contract: the sizes of a fair line keep its total within 64 bits. Assumes nothing.
 -- the span ends within the window
-use Prim.Native.Nat.{◌+◌}
 use native.Mathlib.Omega.{arith}
-use borrow.Author.Rules.{rules}
-use Rattle.twap.specs.laws.Lines.{Inside, fair-total, fair-cut, told-before, told-now, line-built}
+use Rattle.twap.specs.laws.Lines.{fair-total, fair-cut, told-before, told-now, line-built}
 use Rattle.twap.proofs.line_with.Goals as goal
 
 pub overflow_sub-length : goal.overflow_sub-length

@@ -1,10 +1,8 @@
 -- `twap::lines_of` meets its contract: at each place the lines are those of the fields before it. Assumes nothing.
 use mathlib.Core.Path.{refl}
-use mathlib.Core.Logic.{⊎_elim}
 use native.Mathlib.Omega.{arith}
 use borrow.Author.Rules.{rules}
-use Rattle.sheet.specs.laws.Walk.{left}
-use Rattle.twap.specs.laws.Pass.{Passing, pass-start, start_small, pass-done, pass-fair, pass-headed, pass-inside, pass_fits, pass-own, pass-none}
+use Rattle.twap.specs.laws.Pass.{pass-start, start_small, pass-done, pass-fair, pass-headed, pass-inside, pass_fits, pass-own, pass-none}
 use Rattle.twap.proofs.lines_of.Goals as goal
 use Rattle.twap.proofs.lines_of.Goals.{then-i-lt12, else-i-lt12}
 

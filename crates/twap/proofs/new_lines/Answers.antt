@@ -1,6 +1,5 @@
 -- `twap::new_lines` meets its contract. Assumes nothing.
 use mathlib.Core.Path.{refl}
-use borrow.Author.Rules.{rules}
 use Rattle.twap.proofs.new_lines.Goals as goal
 
 pub returns : goal.returns

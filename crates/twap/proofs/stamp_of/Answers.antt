@@ -1,6 +1,5 @@
 -- `twap::stamp_of` meets its contract. Assumes nothing.
 use mathlib.Core.Path.{sym, ap, ◌∙◌}
-use borrow.Author.Rules.{rules}
 use Rattle.twap.specs.laws.Lines.{stamp_of}
 use Rattle.twap.proofs.stamp_of.Goals as goal
 

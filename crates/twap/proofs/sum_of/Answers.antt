@@ -1,6 +1,5 @@
 -- `twap::sum_of` meets its contract: the last span goes to the window's end. Assumes nothing.
 use native.Mathlib.Omega.{arith}
-use borrow.Author.Rules.{rules}
 use Rattle.twap.specs.laws.Lines.{fair-total, sum_told, sum-missing}
 use Rattle.twap.proofs.sum_of.Goals as goal
 

@@ -1,8 +1,6 @@
 -- `twap::sums_of` meets its contract: the first i sums are told. Assumes nothing.
-use Prim.Native.Nat.{◌-◌, ◌≤◌}
 use borrow.Author.Rules.{rules}
-use Rattle.sheet.specs.Fields.{fields_of}
-use Rattle.twap.specs.laws.Pass.{Summing, sum-start, sum_done, sum-fair, sum-next, start_small, lines-ready}
+use Rattle.twap.specs.laws.Pass.{sum-start, sum_done, sum-fair, sum-next, start_small, lines-ready}
 use Rattle.twap.proofs.sums_of.Goals as goal
 
 ruleset summing = (sum-start, sum_done, sum-fair, sum-next, start_small, lines-ready, rules)

@@ -1,8 +1,7 @@
 -- `twap::sums_of` meets its contract: the first i sums are told. Assumes nothing.
 use Prim.Native.Nat.{◌-◌, ◌≤◌}
-use borrow.Author.Rules.{rules}
 use Rattle.sheet.specs.Fields.{fields_of}
-use Rattle.twap.specs.laws.Pass.{Summing, sum-start, sum_done, sum-fair, sum-next, start_small, lines-ready}
+use Rattle.twap.specs.laws.Pass.{Summing}
 use Rattle.twap.proofs.sums_of.Given as goal
 
 abbrev pub invariant-loop-i : goal.invariant-loop-i

@@ -3,7 +3,6 @@ use mathlib.Core.List.{[], ◌∷◌}
 use native.Mathlib.Omega.{arith}
 use mathlib.Core.Path.{sym}
 use Rattle.wire.specs.laws.Trips.{put-short, put-stored}
-use borrow.Author.Rules.{rules}
 use Rattle.wire.proofs.put1.Goals as goal
 
 pub returns-then-part-lt1 : goal.returns-then-part-lt1

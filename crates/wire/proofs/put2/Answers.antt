@@ -3,7 +3,6 @@ use Rattle.wire.specs.Big.{bytes2}
 use native.Mathlib.Omega.{arith}
 use mathlib.Core.Path.{sym}
 use Rattle.wire.specs.laws.Trips.{put-short, put-stored}
-use borrow.Author.Rules.{rules}
 use Rattle.wire.proofs.put2.Goals as goal
 
 pub returns-then-part-lt2 : goal.returns-then-part-lt2

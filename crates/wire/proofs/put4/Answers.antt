@@ -4,7 +4,6 @@ use lib.ListN.{length-set}
 use native.Mathlib.Omega.{arith}
 use mathlib.Core.Path.{sym}
 use Rattle.wire.specs.laws.Trips.{put-short, put-stored}
-use borrow.Author.Rules.{rules}
 use Rattle.wire.proofs.put4.Goals as goal
 
 pub returns-then-part-lt4 : goal.returns-then-part-lt4

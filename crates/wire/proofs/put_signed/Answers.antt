@@ -3,7 +3,6 @@ use Rattle.wire.specs.Big.{bits, bytes4, put}
 use mir.Facts.{to_z-of_z}
 use Prim.Native.Nat.{ℕ}
 use mathlib.Core.Path.{ap, ◌∙◌}
-use borrow.Author.Rules.{rules}
 use Rattle.wire.proofs.put_signed.Goals as goal
 
 pub returns : goal.returns

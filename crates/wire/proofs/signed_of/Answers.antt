@@ -6,7 +6,6 @@ use native.Mathlib.Omega.{arith}
 use mir.Syntax.{w32}
 use mir.Val.{to_z, of_z}
 use Rattle.wire.proofs.Signs.{upper}
-use borrow.Author.Rules.{rules}
 use Rattle.wire.proofs.signed_of.Goals as goal
 
 pub overflow_sub-result : goal.overflow_sub-result

@@ -1,6 +1,5 @@
 -- `field::judge::judge` meets its contract: in each arm the field is known, and the rest is what the callee says. Assumes nothing.
 use Rattle.field.specs.Judging.{judge}
-use borrow.Author.Rules.{rules}
 use Rattle.field.proofs.judge.judge.Goals as goal
 
 pub returns-in-Header : goal.returns-in-Header

@@ -1,7 +1,6 @@
 -- `field::judge::judge_header` meets its contract. Assumes nothing.
 use mathlib.Core.Path.{◌∙◌}
 use Rattle.field.specs.Judging.{judge}
-use borrow.Author.Rules.{rules}
 use Rattle.field.proofs.judge.judge_header.Goals as goal
 
 pub returns : goal.returns

@@ -1,6 +1,5 @@
 -- `field::judge::on_instrument` meets its contract. Assumes nothing.
 use mathlib.Core.Path.{◌∙◌}
-use borrow.Author.Rules.{rules}
 use Rattle.field.proofs.judge.on_instrument.Goals as goal
 
 pub returns : goal.returns

@@ -1,7 +1,6 @@
 -- `field::judge::price_right` meets its contract: the ends are the instrument's. Assumes nothing.
 use mathlib.Core.Path.{◌∙◌}
 use Rattle.field.proofs.Ends.{price-ends}
-use borrow.Author.Rules.{rules}
 use Rattle.field.proofs.judge.price_right.Goals as goal
 
 pub returns : goal.returns

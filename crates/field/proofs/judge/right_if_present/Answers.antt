@@ -1,6 +1,5 @@
 -- `field::judge::right_if_present` meets its contract. Assumes nothing.
 use mathlib.Core.Path.{◌∙◌}
-use borrow.Author.Rules.{rules}
 use Rattle.field.proofs.judge.right_if_present.Goals as goal
 
 pub returns : goal.returns

@@ -1,6 +1,5 @@
 -- `field::judge::side_prices_right` meets its contract. Assumes nothing.
 use mathlib.Core.Path.{◌∙◌}
-use borrow.Author.Rules.{rules}
 use Rattle.field.proofs.judge.side_prices_right.Goals as goal
 
 pub returns : goal.returns

@@ -1,6 +1,5 @@
 -- `field::judge::sides_right` meets its contract. Assumes nothing.
 use mathlib.Core.Path.{◌∙◌}
-use borrow.Author.Rules.{rules}
 use Rattle.field.proofs.judge.sides_right.Goals as goal
 
 pub returns : goal.returns

@@ -1,6 +1,5 @@
 -- `field::judge::stamp` meets its contract. Assumes nothing.
 use mathlib.Core.Path.{◌∙◌}
-use borrow.Author.Rules.{rules}
 use Rattle.field.proofs.judge.stamp.Goals as goal
 
 pub returns : goal.returns

@@ -1,6 +1,5 @@
 -- `field::judge::zero_if_absent` meets its contract. Assumes nothing.
 use mathlib.Core.Path.{◌∙◌}
-use borrow.Author.Rules.{rules}
 use Rattle.field.proofs.judge.zero_if_absent.Goals as goal
 
 pub returns : goal.returns

@@ -3,7 +3,6 @@ use Rattle.field.specs.Layout.{lengths}
 use lib.ListN.{get_or-eq_default}
 use native.Mathlib.Omega.{arith}
 use mathlib.Core.Path.{sym}
-use borrow.Author.Rules.{rules}
 use Rattle.field.proofs.layout.length_of.Goals as goal
 
 pub returns-else-tag-le6 : goal.returns-else-tag-le6

@@ -1,6 +1,5 @@
 -- `field::layout::tag_of` meets its contract. Assumes nothing.
 use Rattle.field.specs.Layout.{tag_of}
-use borrow.Author.Rules.{rules}
 use Rattle.field.proofs.layout.tag_of.Goals as goal
 
 pub returns-in-Header : goal.returns-in-Header

@@ -1,5 +1,4 @@
 -- `indicator::Indicator::close` meets its contract. Assumes nothing.
-use borrow.Author.Rules.{rules}
 use Rattle.indicator.proofs.Indicator.close.Goals as goal
 
 pub returns : goal.returns

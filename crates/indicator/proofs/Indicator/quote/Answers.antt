@@ -1,5 +1,4 @@
 -- `indicator::Indicator::quote` meets its contract. Assumes nothing.
-use borrow.Author.Rules.{rules}
 use Rattle.indicator.proofs.Indicator.quote.Goals as goal
 
 pub returns : goal.returns

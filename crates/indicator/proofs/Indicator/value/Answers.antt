@@ -1,5 +1,4 @@
 -- `indicator::Indicator::value` meets its contract. Assumes nothing.
-use borrow.Author.Rules.{rules}
 use Rattle.indicator.proofs.Indicator.value.Goals as goal
 
 pub returns-in-At : goal.returns-in-At
