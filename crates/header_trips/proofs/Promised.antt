@@ -27,7 +27,6 @@ use Rattle.price_rules.specs.Says.{closings_say}
 use Rattle.price_rules.specs.laws.Says.{closed-once}
 use Rattle.laws.proofs.Promised.{Closes, says, six-day, six-answers}
 use Rattle.filled_buffer.specs.declared.Filled.{Filled}
-use Rattle.filled_buffer.specs.declared.Filled.TheVariants as Filled
 use Rattle.filled_buffer.specs.Filling.{Made, made, refused, buffer_with, filled}
 use Rattle.filled_buffer.specs.laws.Filling.{Answers}
 use Rattle.header_mover.specs.Moving.{moved}
