@@ -12,7 +12,6 @@ use Rattle.price_rules.specs.declared.Method.{Method}
 use Rattle.price_rules.specs.declared.Method.TheVariants.{Vwap, Twap}
 use Rattle.price_rules.specs.Closing.{Told, close, refused, Answers, six, none-priced}
 use Rattle.filled_buffer.specs.declared.Filled.{Filled}
-use Rattle.filled_buffer.specs.declared.Filled.TheVariants as Filled
 use Rattle.text.specs.declared.Put.{Put}
 use Rattle.text.specs.declared.Put.TheVariants.{Next, Full}
 

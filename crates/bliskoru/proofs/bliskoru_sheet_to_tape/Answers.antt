@@ -1,5 +1,4 @@
 -- `bliskoru::bliskoru_sheet_to_tape` meets its contract: what the covered function answers is handed over. Assumes nothing.
-use borrow.Author.Rules.{rules}
 use Rattle.bliskoru.specs.laws.Told.{handed-over}
 use Rattle.bliskoru.proofs.bliskoru_sheet_to_tape.Goals as goal
 

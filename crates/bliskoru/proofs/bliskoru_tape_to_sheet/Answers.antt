@@ -1,5 +1,4 @@
 -- `bliskoru::bliskoru_tape_to_sheet` meets its contract: what the covered function answers is handed over. Assumes nothing.
-use borrow.Author.Rules.{rules}
 use Rattle.bliskoru.specs.laws.Told.{handed-over}
 use Rattle.bliskoru.proofs.bliskoru_tape_to_sheet.Goals as goal
 

@@ -1,5 +1,4 @@
 -- `bliskoru::bliskoru_write_long_header` meets its contract. Assumes nothing.
-use borrow.Author.Rules.{rules}
 use Rattle.bliskoru.proofs.bliskoru_write_long_header.Goals as goal
 
 pub returns : goal.returns

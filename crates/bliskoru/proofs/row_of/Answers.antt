@@ -1,5 +1,4 @@
 -- `bliskoru::row_of` meets its contract. Assumes nothing.
-use borrow.Author.Rules.{rules}
 use Rattle.bliskoru.proofs.row_of.Goals as goal
 
 pub returns-in-Priced : goal.returns-in-Priced

@@ -1,5 +1,4 @@
 -- `bliskoru::values_of` meets its contract. Assumes nothing.
-use borrow.Author.Rules.{rules}
 use Rattle.bliskoru.proofs.values_of.Goals as goal
 
 pub returns-in-Header : goal.returns-in-Header

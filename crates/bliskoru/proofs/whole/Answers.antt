@@ -1,5 +1,4 @@
 -- `bliskoru::whole` meets its contract: 32 bits fit 64. Assumes nothing.
-use borrow.Author.Rules.{rules}
 use Rattle.cents.specs.laws.Whole.{cast-u32}
 use Rattle.bliskoru.proofs.whole.Goals as goal
 

@@ -1,6 +1,5 @@
 -- A row of the code, as numbers.
 use Rattle.std.specs.Prelude.{ℕ, List, [], ◌∷◌}
-use Rattle.price_rules.specs.Closing.{close}
 use Rattle.bliskoru.specs.declared.Row.{Row}
 
 -- a row of the code

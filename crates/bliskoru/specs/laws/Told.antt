@@ -19,7 +19,6 @@ use Rattle.price_rules.specs.declared.Closed.TheVariants as C
 use Rattle.price_rules.specs.Closing.{Told, Answers}
 use Rattle.price_rules.specs.Says.{closings_say, closed_says}
 use Rattle.filled_buffer.specs.declared.Filled.{Filled}
-use Rattle.filled_buffer.specs.declared.Filled.TheVariants as Filled
 use Rattle.text.specs.declared.Put.{Put}
 use Rattle.text.specs.declared.Put.TheVariants.{Next, Full}
 use Rattle.bliskoru.specs.declared.Row.{Row}
