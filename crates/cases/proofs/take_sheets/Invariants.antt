@@ -1,7 +1,6 @@
 -- `cases::take_sheets` meets its contract: the place is never behind the stream's end. Assumes nothing.
 use Prim.Native.Nat.{◌≤◌, ◌-◌}
 use lib.ListN.{length}
-use borrow.Author.Rules.{rules}
 use Rattle.cases.proofs.take_sheets.Given as goal
 
 abbrev pub invariant-loop-at : goal.invariant-loop-at

@@ -2,7 +2,6 @@
 use mathlib.Core.Path.{refl}
 use lib.ListN.{length-set}
 use native.Mathlib.Omega.{arith}
-use borrow.Author.Rules.{rules}
 use Rattle.sheet_cases.proofs.push.Goals as goal
 
 pub returns-then-n-out : goal.returns-then-n-out

@@ -1,9 +1,6 @@
 -- `sheet_cases::take_lines` meets its contract: a line starts at or before the place reached. Assumes nothing.
 use Prim.Native.Nat.{◌≤◌, ◌-◌}
-use mathlib.Core.Logic.{⊎_elim}
-use native.Mathlib.Omega.{arith}
 use lib.ListN.{length}
-use borrow.Author.Rules.{rules}
 use Rattle.sheet_cases.proofs.take_lines.Given as goal
 
 abbrev pub invariant-loop-i : goal.invariant-loop-i
