@@ -1,5 +1,4 @@
 -- Laws of the state over a list of fields: what a pass over a sheet goes by, and when there is a reference.
---     Rising           previous closes before records, whose times never fall
 --     due, late        a field that counts is taken; fields that all come later change nothing
 --     parted           the fields that count at t stand before those that come later, and the state at t is the one after them
 --     whole-window     where all fields come by the window's start or behind the window, one indicator throughout

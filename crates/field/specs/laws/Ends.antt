@@ -1,7 +1,4 @@
--- The two ends of a price's range, and a quote with both sides judged by them. The rules are Judging's, and these are proved to say the same:
---     price-ends    a price is right where it lies between its ends
---     both-sides    where the bid is not above the offer, one end is asked of each side
--- Assumes nothing.
+-- The two ends of a price's range, and a quote with both sides judged by them. The rules are Judging's, and proofs/Ends proves that these say the same.
 use Rattle.std.specs.Prelude.{ℕ, Bool, true, false, eqb, pos, neg_ℤ}
 use Rattle.std.specs.Int.Signed.{le_z}
 use Rattle.field.specs.declared.Price.{Price}

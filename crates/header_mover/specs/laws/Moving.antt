@@ -1,8 +1,5 @@
--- A moved sheet as the code makes it: the wanted header, and the bytes behind the sheet's own.
---     rest-same      behind the header no field has a form
---     moved-is       the moved sheet's bytes;  moved-long    and how many they are
---     move-..        what is answered, and what stands in the buffer, in each case
--- Assumes nothing.
+-- Words for a moved sheet as the code makes it: an accepted sheet, how long a header is, that there is room, and the numbers of a move in their order.
+-- proofs/Moving has the laws.
 use Rattle.std.specs.Prelude.{ℕ, ◌+◌, ◌-◌, ◌≤◌, Bool, true, false, cond, ◌≡◌, refl, leb, eqb, length, take, drop}
 use Rattle.std.proofs.Math.Path.{sym, ap}
 use Rattle.std.proofs.Common.{ap₂, ◌∙◌, arith, eq-eqb, ne_eqb, le-leb, leb-true, length-append, length-drop, take_all, drop_at}

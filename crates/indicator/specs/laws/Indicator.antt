@@ -1,11 +1,8 @@
--- Laws of the state over a list of fields: what a pass over a sheet goes by, and when there is a reference.
+-- Words for the state over a list of fields, by which its laws are stated: proofs/State has the laws.
 --     Rising           previous closes before records, whose times never fall
---     due, late        a field that counts is taken; fields that all come later change nothing
---     parted           the fields that count at t stand before those that come later, and the state at t is the one after them
---     whole-window     where all fields come by the window's start or behind the window, one indicator throughout
---     reference-told   13's words: a previous close, or a trade of the instrument by then
---     book-latest      the book's words: the latest quote record by then, and empty where there is none
--- Assumes nothing.
+--     Counted, Parted  the fields that count at a time, and those that come later
+--     told_by          13's words: a previous close, or a trade of the instrument by then
+--     latest_quote     the book's words: the latest quote record by then
 use Rattle.std.specs.Prelude.{ℕ, suc, ◌≤◌, ◌≡◌, Bool, false, leb, eqb}
 use Rattle.std.proofs.Math.Bool.{true, cond}
 use mathlib.Core.List.{List, [], ◌∷◌, ◌++◌}
