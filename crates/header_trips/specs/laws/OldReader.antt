@@ -3,7 +3,7 @@
 --     old-reads    where no long header stands, it reads as any reader
 --     reads_old, read-law, unread-law    the laws
 -- Assumes nothing.
-use Prim.Native.Nat.{ℕ, zero, suc, ◌-◌, ◌≤◌}
+use Prim.Native.Nat.{ℕ, zero, suc, ◌+◌, ◌-◌, ◌≤◌}
 use Rattle.std.specs.Prelude.{Bool, ◌≡◌, eqb, get_or}
 use Rattle.std.proofs.Math.Bool.{true, false, cond}
 use Rattle.std.proofs.Math.Path.{refl}
@@ -98,7 +98,8 @@ reads_old s day a z =
 pub read-law : ReadLaw
 read-law s s' room e =
     let k = moves Short room s s' e in
-    (k.day, k.accepted, reads_old s' (day_in Short k.day) (again Short s s' k).accepted refl)
+    let read : judge_old s' ≡ accepts (day_in Short k.day) = reads_old s' (day_in Short k.day) (again Short s s' k).accepted refl in
+    (k.day, k.accepted, cc)
 
 pub unread-law : UnreadLaw
 unfolding judge_old old_reads_from judge_reads encode tag_of unless
