@@ -16,7 +16,7 @@ use Rattle.field.specs.declared.Form.TheVariants.{Short, Long}
 use Rattle.field.specs.declared.Field.{Field}
 use Rattle.field.specs.declared.Field.TheVariants.{Header, PreviousClose, Trade, Quote, End}
 use Rattle.field.specs.Judging.{fine, unless, also, both, third_of}
-use Rattle.field.specs.Layout.{form_tag, tag_of, size_of, field_bytes}
+use Rattle.field.specs.Layout.{form_tag, tag_of, field_bytes}
 use Rattle.field.specs.Writing.{field_size}
 use Rattle.field.specs.laws.Field.{field-length}
 use Rattle.admit.specs.laws.Admitting.{Later}
@@ -24,7 +24,7 @@ use Rattle.sheet.specs.declared.Day.{Day}
 use Rattle.sheet.specs.declared.Judged.{Judged}
 use Rattle.sheet.specs.declared.Judged.TheVariants as J
 use Rattle.sheet.specs.Fields.{fields_of, encode, Each}
-use Rattle.sheet.specs.Judgement.{accepts, judge_sheet, judged_says}
+use Rattle.sheet.specs.Judgement.{judge_sheet, judged_says}
 use Rattle.sheet.specs.laws.Accepted.{accepted-header, accepted-small}
 use Rattle.sheet.specs.laws.Encoding.{accepted-encodes}
 use Rattle.filled_buffer.specs.declared.Filled.{Filled}

@@ -2,8 +2,8 @@
 // judged and the moved one measured before a byte is written, so a refusal changes none.
 #![tactic(auto)]
 
-ghost use Rattle.std.specs.Prelude.{◌≡◌, length};
-ghost use Rattle.text.specs.Over.{over};
+ghost use Rattle.std.specs.Prelude.{◌≡◌, ◌+◌, ◌≤◌, length};
+ghost use Rattle.text.specs.Over.{over, put_buffer};
 ghost use Rattle.field.specs.declared.Field.TheVariants as F;
 ghost use Rattle.sheet.specs.Fields.{fields_of};
 ghost use Rattle.filled_buffer.specs.Filling.{in_room, buffer_with, filled};
@@ -16,7 +16,6 @@ use field::{Field, Form, number};
 use filled_buffer::Filled;
 use raw_writer::put_field;
 use sheet::{Day, Judged, judge_sheet};
-use text::put_bytes;
 
 // A header of this form can get the wanted one: it has the other tag, and the wanted one says the same of 3M.
 fn is_movable(wanted: Form, form: Form) -> bool
@@ -56,6 +55,16 @@ fn headed(day: Day, form: Form) -> Field
     }
 }
 
+// The bytes from the place on, byte by byte: a copy of a part of one lent slice to another asks a host for `memmove`.
+fn put_behind(out: &mut [u8], at: usize, s: &[u8])
+    requires { at + length s.now ≤ length out.old }
+    ensures { out.new ≡ put_buffer out.old at s.now }
+{
+    for i in 0..s.len() {
+        out[at + i] = s[i];
+    }
+}
+
 // The wanted header at the start of the buffer, and behind it the bytes that the sheet has behind its own.
 fn put_moved(sheet: &[u8], out: &mut [u8], day: Day, wanted: Form)
     requires { Fitting sheet.now out.old day wanted }
@@ -64,7 +73,7 @@ fn put_moved(sheet: &[u8], out: &mut [u8], day: Day, wanted: Form)
     let form = day.form;
     let from = header_size(form);
     put_field(out, headed(day, wanted));
-    put_bytes(out, header_size(wanted), &sheet[from..]);
+    put_behind(out, header_size(wanted), &sheet[from..]);
 }
 
 // An accepted sheet with the wanted header; or 19, 1 or 16 at 0.
