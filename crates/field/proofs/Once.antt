@@ -1,10 +1,11 @@
 -- Any two results that a function's contract permits are equal. Assumes nothing.
 use Rattle.promise.specs.Once.{Once}
 use Rattle.promise.specs.laws.Once.{once}
-use Rattle.field.proofs.judge.unless.Reads as unless
-use Rattle.field.proofs.judge.unless.Kinds as unlessK
-use Rattle.field.proofs.judge.also.Reads as also
-use Rattle.field.proofs.judge.also.Kinds as alsoK
+use Rattle.field.specs.laws.Said.{found-once}
+use Rattle.field.proofs.judge.require.Reads as require
+use Rattle.field.proofs.judge.require.Kinds as requireK
+use Rattle.field.proofs.U8FromFault.from.Reads as number_from
+use Rattle.field.proofs.U8FromFault.from.Kinds as number_fromK
 use Rattle.field.proofs.judge.is_within.Reads as is_Within
 use Rattle.field.proofs.judge.is_within.Kinds as is-withinK
 use Rattle.field.proofs.judge.judge.Reads as judge
@@ -40,29 +41,29 @@ use Rattle.field.proofs.judge.is_allowed.Kinds as is-allowedK
 use Rattle.field.proofs.layout.form_tag.Reads as form-tag
 use Rattle.field.proofs.layout.form_tag.Kinds as form-tagK
 
-pub unless-once : Once 0 unlessK.ps unlessK.r unless.Post (λ κs x s. x)
-unless-once κs a x y s t p q = once p q
+pub require-once : Once 0 requireK.ps requireK.r require.Post (λ κs x s. x)
+require-once κs a x y s t p q = found-once (p 0) (q 0)
 
-pub also-once : Once 0 alsoK.ps alsoK.r also.Post (λ κs x s. x)
-also-once κs a x y s t p q = once p q
+pub number-from-once : Once 0 number_fromK.ps number_fromK.r number_from.Post (λ κs x s. x)
+number-from-once κs a x y s t p q = once p q
 
 pub is-within-once : Once 0 is-withinK.ps is-withinK.r is_Within.Post (λ κs x s. x)
 is-within-once κs a x y s t p q = once p q
 
 pub judge-once : Once 0 judgeK.ps judgeK.r judge.Post (λ κs x s. x)
-judge-once κs a x y s t p q = once p q
+judge-once κs a x y s t p q = found-once p q
 
 pub judge-header-once : Once 0 judge-headerK.ps judge-headerK.r judge-header.Post (λ κs x s. x)
-judge-header-once κs a x y s t p q = once p q
+judge-header-once κs a x y s t p q = found-once p q
 
 pub judge-previous-once : Once 0 judge-previousK.ps judge-previousK.r judge-previous.Post (λ κs x s. x)
-judge-previous-once κs a x y s t p q = once p q
+judge-previous-once κs a x y s t p q = found-once p q
 
 pub judge-trade-once : Once 0 judge-tradeK.ps judge-tradeK.r judge-trade.Post (λ κs x s. x)
-judge-trade-once κs a x y s t p q = once p q
+judge-trade-once κs a x y s t p q = found-once p q
 
 pub judge-quote-once : Once 0 judge-quoteK.ps judge-quoteK.r judge-quote.Post (λ κs x s. x)
-judge-quote-once κs a x y s t p q = once p q
+judge-quote-once κs a x y s t p q = found-once p q
 
 pub both-sides-right-once : Once 0 both-sides-rightK.ps both-sides-rightK.r both-sides-right.Post (λ κs x s. x)
 both-sides-right-once κs a x y s t p q = once p q

@@ -1,52 +1,34 @@
-// What the ranges of SHEET 3 say of a field's values: the first number that they earn, or FINE.
-ghost use Rattle.std.specs.Prelude.{◌≡◌, pos};
-ghost use Rattle.std.specs.Int.Signed.{le_z};
-ghost use Rattle.field.specs.Judging.{within, cents_within, if_present, if_absent, third_of, header_right, allowed, time_right, price_right, has_bid, has_offer, sides_right, side_prices_right, ordered, on_instrument, stamped, alone};
+// What the ranges of SHEET 3 say of a field's values: the first fault that they earn, if any.
+#![tactic(auto, unfolding(crate::specs::Judging::both, crate::specs::Judging::pick, crate::specs::Judging::unless, crate::specs::Judging::judge, crate::specs::laws::Ends::lowest_price, crate::specs::laws::Ends::highest_price))]
+
+ghost use Rattle.std.specs.Prelude.{◌≡◌, ℕ, pos};
+ghost use Rattle.field.specs.Judging.{unless, within, cents_within, if_present, if_absent, third_of, header_right, allowed, time_right, price_right, has_bid, has_offer, sides_right, side_prices_right, ordered, on_instrument, stamped, alone};
 ghost use Rattle.field.specs.Judging as Judging;
+ghost use Rattle.field.specs.Said.{fault_number, found, found_before};
 ghost use Rattle.field.specs.laws.Ends.{lowest_price, highest_price, both_sides_right};
 ghost use Rattle.field.specs.declared.Field.TheVariants as F;
 
-use crate::{Before, Field, Form, Price, number};
+use crate::{Before, Fault, Field, Form, Price};
 use market::is_barred;
 
-// The number of a test that fails; where it holds the rest decides.
-pub fn unless(test: bool, number: u8, rest: u8) -> u8
-    ensures { result ≡ Judging.unless test number rest }
+// A test that fails has this fault; where it holds the rest decides.
+pub fn require(test: bool, fault: Fault) -> Result<(), Fault>
+    ensures { (rest : ℕ) → found_before result rest ≡ unless test (fault_number fault) rest }
 {
-    if test { rest } else { number }
-}
-
-// One number, then another where the first found nothing.
-pub fn also(first: u8, rest: u8) -> u8
-    ensures { result ≡ Judging.also first rest }
-{
-    if first == number::FINE { rest } else { first }
-}
-
-fn both(a: bool, b: bool) -> bool
-    ensures { result ≡ Judging.both a b }
-{
-    if a { b } else { false }
-}
-
-fn pick(which: bool, a: bool, b: bool) -> bool
-    ensures { result ≡ Judging.pick which a b }
-{
-    if which { a } else { b }
+    if test { Ok(()) } else { Err(fault) }
 }
 
 // From a least number to a greatest, both in.
 pub fn is_within(low: u32, high: u32, x: u32) -> bool
     ensures { result ≡ within low high x }
 {
-    both(low <= x, x <= high)
+    (low..=high).contains(&x)
 }
 
-fn cents_within(low: i32, high: i32, price: Price) -> bool
-    ensures { result ≡ cents_within low high price }
+fn is_zero(price: Price) -> bool
+    ensures { result ≡ cents_within (pos 0) (pos 0) price }
 {
-    let cents = price.cents;
-    both(low <= cents, cents <= high)
+    price.cents == 0
 }
 
 // The third value of a header; a short one has 0.
@@ -62,10 +44,7 @@ pub fn third_of(form: Form) -> u8
 fn header_right(metal: u8, marks: u16, third: u8) -> bool
     ensures { result ≡ header_right metal marks third }
 {
-    both(
-        is_within(1, 5, metal as u32),
-        both(marks <= 2047, third <= 2),
-    )
+    is_within(1, 5, metal as u32) && marks <= 2047 && third <= 2
 }
 
 // No field stands before a field that is judged by itself.
@@ -85,7 +64,7 @@ pub fn is_allowed(third: u8, instrument: u8) -> bool
 fn time_right(least: u32, time: u32) -> bool
     ensures { result ≡ time_right least time }
 {
-    both(time <= 86_399_999, least <= time)
+    time <= 86_399_999 && least <= time
 }
 
 // The lowest and the highest price of an instrument: of an outright 1 and 99,999,999 cents, of a spread -9,999,999 and 9,999,999.
@@ -109,20 +88,11 @@ fn highest(instrument: u8) -> Price
     }
 }
 
-fn at_most(a: Price, b: Price) -> bool
-    ensures { result ≡ le_z a.cents b.cents }
-{
-    a.cents <= b.cents
-}
-
 // One comparison with each end, whatever the instrument is.
 fn price_right(instrument: u8, price: Price) -> bool
     ensures { result ≡ price_right instrument price }
 {
-    both(
-        at_most(lowest(instrument), price),
-        at_most(price, highest(instrument)),
-    )
+    lowest(instrument) <= price && price <= highest(instrument)
 }
 
 fn has_bid(sides: u8) -> bool
@@ -140,94 +110,76 @@ fn has_offer(sides: u8) -> bool
 fn zero_if_absent(present: bool, price: Price) -> bool
     ensures { result ≡ if_absent present (cents_within (pos 0) (pos 0) price) }
 {
-    pick(present, true, cents_within(0, 0, price))
+    present || is_zero(price)
 }
 
 fn right_if_present(present: bool, instrument: u8, price: Price) -> bool
     ensures { result ≡ if_present present (price_right instrument price) }
 {
-    pick(present, price_right(instrument, price), true)
+    !present || price_right(instrument, price)
 }
 
 fn sides_right(sides: u8, bid: Price, offer: Price) -> bool
     ensures { result ≡ sides_right sides bid offer }
 {
-    let zeros = both(
-        zero_if_absent(has_bid(sides), bid),
-        zero_if_absent(has_offer(sides), offer),
-    );
-    both(sides <= 3, zeros)
+    sides <= 3 && zero_if_absent(has_bid(sides), bid) && zero_if_absent(has_offer(sides), offer)
 }
 
 fn side_prices_right(instrument: u8, sides: u8, bid: Price, offer: Price) -> bool
     ensures { result ≡ side_prices_right instrument sides bid offer }
 {
-    both(
-        right_if_present(has_bid(sides), instrument, bid),
-        right_if_present(has_offer(sides), instrument, offer),
-    )
+    right_if_present(has_bid(sides), instrument, bid)
+        && right_if_present(has_offer(sides), instrument, offer)
 }
 
 fn in_order(sides: u8, bid: Price, offer: Price) -> bool
     ensures { result ≡ ordered sides bid offer }
 {
-    pick(
-        both(has_bid(sides), has_offer(sides)),
-        bid.cents <= offer.cents,
-        true,
-    )
+    !(has_bid(sides) && has_offer(sides)) || bid <= offer
 }
 
 // An instrument, before the rest of its field.
-fn on_instrument(before: Before, instrument: u8, rest: u8) -> u8
-    ensures { result ≡ on_instrument before instrument rest }
+fn on_instrument(before: Before, instrument: u8) -> Result<(), Fault>
+    ensures { (rest : ℕ) → found_before result rest ≡ on_instrument before instrument rest }
 {
-    unless(
-        instrument <= 11,
-        number::INSTRUMENT,
-        unless(is_allowed(before.third, instrument), number::BARRED, rest),
-    )
+    require(instrument <= 11, Fault::Instrument)?;
+    require(is_allowed(before.third, instrument), Fault::Barred)
 }
 
 // A record's instrument and time, before the rest of it.
-fn stamp(before: Before, time: u32, instrument: u8, rest: u8) -> u8
-    ensures { result ≡ stamped before time instrument rest }
+fn stamp(before: Before, time: u32, instrument: u8) -> Result<(), Fault>
+    ensures { (rest : ℕ) → found_before result rest ≡ stamped before time instrument rest }
 {
-    let timely = unless(time_right(before.time, time), number::TIME, rest);
-    on_instrument(before, instrument, timely)
+    on_instrument(before, instrument)?;
+    require(time_right(before.time, time), Fault::Time)
 }
 
 // A field's values, for callers that have them as numbers: a header's, a previous close's, a trade's and a quote's.
-pub fn judge_header(metal: u8, marks: u16, form: Form) -> u8
-    ensures { result ≡ Judging.judge alone (F.Header metal marks form) }
+pub fn judge_header(metal: u8, marks: u16, form: Form) -> Result<(), Fault>
+    ensures { found result ≡ Judging.judge alone (F.Header metal marks form) }
 {
-    unless(
-        header_right(metal, marks, third_of(form)),
-        number::METAL,
-        number::FINE,
-    )
+    require(header_right(metal, marks, third_of(form)), Fault::Metal)
 }
 
-pub fn judge_previous(before: Before, instrument: u8, price: Price) -> u8
-    ensures { result ≡ Judging.judge before (F.PreviousClose instrument price) }
+pub fn judge_previous(before: Before, instrument: u8, price: Price) -> Result<(), Fault>
+    ensures { found result ≡ Judging.judge before (F.PreviousClose instrument price) }
 {
-    let rest = unless(price_right(instrument, price), number::PRICE, number::FINE);
-    on_instrument(before, instrument, rest)
+    on_instrument(before, instrument)?;
+    require(price_right(instrument, price), Fault::Price)
 }
 
-pub fn judge_trade(before: Before, time: u32, instrument: u8, price: Price, lots: u16) -> u8
-    ensures { result ≡ Judging.judge before (F.Trade time instrument price lots) }
+pub fn judge_trade(
+    before: Before,
+    time: u32,
+    instrument: u8,
+    price: Price,
+    lots: u16,
+) -> Result<(), Fault>
+    ensures { found result ≡ Judging.judge before (F.Trade time instrument price lots) }
 {
-    let rest = unless(
-        price_right(instrument, price),
-        number::PRICE,
-        unless(
-            is_within(1, 10_000, lots as u32),
-            number::LOTS,
-            number::FINE,
-        ),
-    );
-    stamp(before, time, instrument, rest)
+    stamp(before, time, instrument)?;
+    require(price_right(instrument, price), Fault::Price)?;
+    require(is_within(1, 10_000, lots as u32), Fault::Lots)
 }
 
 pub fn judge_quote(
@@ -237,32 +189,28 @@ pub fn judge_quote(
     sides: u8,
     bid: Price,
     offer: Price,
-) -> u8
-    ensures { result ≡ Judging.judge before (F.Quote time instrument sides bid offer) }
+) -> Result<(), Fault>
+    ensures { found result ≡ Judging.judge before (F.Quote time instrument sides bid offer) }
 {
-    let prices = unless(
+    stamp(before, time, instrument)?;
+    require(sides_right(sides, bid, offer), Fault::Sides)?;
+    require(
         side_prices_right(instrument, sides, bid, offer),
-        number::PRICE,
-        unless(in_order(sides, bid, offer), number::SIDES, number::FINE),
-    );
-    let rest = unless(sides_right(sides, bid, offer), number::SIDES, prices);
-    stamp(before, time, instrument, rest)
+        Fault::Price,
+    )?;
+    require(in_order(sides, bid, offer), Fault::Sides)
 }
 
 // Whether a quote with both sides is right, its time put aside: where the bid is not above the offer, each end is asked of one side alone.
 pub fn both_sides_right(instrument: u8, bid: Price, offer: Price) -> bool
     ensures { result ≡ both_sides_right instrument bid offer }
 {
-    let upward = both(at_most(bid, offer), at_most(offer, highest(instrument)));
-    both(
-        instrument <= 11,
-        both(at_most(lowest(instrument), bid), upward),
-    )
+    instrument <= 11 && lowest(instrument) <= bid && bid <= offer && offer <= highest(instrument)
 }
 
-// The first number that a field's values earn behind what came before, or FINE.
-pub fn judge(before: Before, field: Field) -> u8
-    ensures { result ≡ Judging.judge before field }
+// The first fault that a field's values earn behind what came before, if any.
+pub fn judge(before: Before, field: Field) -> Result<(), Fault>
+    ensures { found result ≡ Judging.judge before field }
 {
     match field {
         Field::Header { metal, marks, form } => judge_header(metal, marks, form),
@@ -280,6 +228,6 @@ pub fn judge(before: Before, field: Field) -> u8
             bid,
             offer,
         } => judge_quote(before, time, instrument, sides, bid, offer),
-        Field::End { count: _ } => number::FINE,
+        Field::End { .. } => Ok(()),
     }
 }

@@ -1,4 +1,6 @@
 // A field's tag, its body's length and its size: the table of tags of SHEET 1.
+#![tactic(auto, unfolding(crate::specs::Judging::both, crate::specs::Layout::tag_of, crate::specs::laws::Standing::stands))]
+
 ghost use Rattle.std.specs.Prelude.{◌≡◌, ◌-◌};
 ghost use Rattle.field.specs.Layout.{tag_right, length_of, size_of, form_tag, tag_of};
 ghost use Rattle.field.specs.laws.Standing as Standing;
@@ -7,7 +9,7 @@ use crate::judge::is_within;
 use crate::{Field, Form};
 use wire::join2;
 
-// The tags.
+// The tags. They are compared with a sheet's bytes, which an enum would have to be made of first.
 pub const HEADER: u8 = 1;
 
 pub const PREVIOUS_CLOSE: u8 = 2;
@@ -49,8 +51,8 @@ pub fn form_tag(form: Form) -> u8
     ensures { result ≡ form_tag form }
 {
     match form {
-        Form::Short => 1,
-        Form::Long(_) => 6,
+        Form::Short => HEADER,
+        Form::Long(_) => LONG_HEADER,
     }
 }
 
@@ -59,29 +61,11 @@ pub fn tag_of(field: Field) -> u8
     ensures { result ≡ tag_of field }
 {
     match field {
-        Field::Header {
-            metal: _,
-            marks: _,
-            form,
-        } => form_tag(form),
-        Field::PreviousClose {
-            instrument: _,
-            price: _,
-        } => 2,
-        Field::Trade {
-            time: _,
-            instrument: _,
-            price: _,
-            lots: _,
-        } => 3,
-        Field::Quote {
-            time: _,
-            instrument: _,
-            sides: _,
-            bid: _,
-            offer: _,
-        } => 4,
-        Field::End { count: _ } => 5,
+        Field::Header { form, .. } => form_tag(form),
+        Field::PreviousClose { .. } => PREVIOUS_CLOSE,
+        Field::Trade { .. } => TRADE,
+        Field::Quote { .. } => QUOTE,
+        Field::End { .. } => END,
     }
 }
 
@@ -89,21 +73,14 @@ pub fn tag_of(field: Field) -> u8
 pub fn remaining(len: usize, at: usize) -> usize
     ensures { result ≡ len - at }
 {
-    if at < len { len - at } else { 0 }
+    len.saturating_sub(at)
 }
 
 // Whether a tag, its length and so many bytes as its field has stand at a place: a head that earns no number.
 pub fn stands(sheet: &[u8], at: usize, tag: u8) -> bool
     ensures { result ≡ Standing.stands sheet.now at tag }
 {
-    if remaining(sheet.len(), at) < size_of(tag) {
-        return false;
-    }
-    let here = sheet[at];
-    if here != tag {
-        return false;
-    }
-    let length = at + 1;
-    let told = join2(sheet[length], sheet[length + 1]);
-    told == length_of(tag)
+    size_of(tag) <= remaining(sheet.len(), at)
+        && sheet[at] == tag
+        && join2(sheet[at + 1], sheet[at + 2]) == length_of(tag)
 }
