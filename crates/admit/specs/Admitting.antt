@@ -1,10 +1,12 @@
 -- SHEET 2, the order of fields, 5 and 12 of SHEET 4: whether a field may come next, and what is kept behind it.
-use Rattle.std.specs.Prelude.{ℕ, ◌+◌, Bool, cond, leb, ltb, eqb}
+use Rattle.std.specs.Prelude.{ℕ, ◌+◌, Bool, cond, leb, ltb, eqb, Result, Ok, Err}
 use Rattle.field.specs.declared.Form.{Form}
 use Rattle.field.specs.declared.Form.TheVariants.{Short}
 use Rattle.field.specs.declared.Before.{Before}
 use Rattle.field.specs.declared.Field.{Field}
 use Rattle.field.specs.declared.Field.TheVariants.{Header, PreviousClose, Trade, Quote, End}
+use Rattle.field.specs.declared.Fault.{Fault}
+use Rattle.field.specs.Said.{fault_number}
 use Rattle.field.specs.Judging.{fine, unless, also, both, third_of, judge}
 use Rattle.admit.specs.declared.Progress.{Progress}
 use Rattle.admit.specs.declared.Admitted.{Admitted}
@@ -72,7 +74,7 @@ admit p f = cond (eqb (admit_number p f) fine) (admitted p f) (stops (admit_numb
 
 -- ---- what each answer of the code says
 
-abbrev pub admit_says : Admitted → Step
-admit_says (A.Next q) = goes q
-admit_says A.Ended = ends
-admit_says (A.Refused number) = stops number
+abbrev pub admit_says : Result Admitted Fault → Step
+admit_says (Ok (A.Next q)) = goes q
+admit_says (Ok A.Ended) = ends
+admit_says (Err fault) = stops (fault_number fault)

@@ -1,16 +1,18 @@
 // The fields of a day sheet one after the other. Hosts don't call it. Whether a field may come next, by its place, its values and the end's count,
 // and what is kept behind it.
-#![tactic(auto)]
+#![tactic(auto, unfolding(crate::specs::Admitting::previous_placed, crate::specs::Admitting::placed, crate::specs::Admitting::count_number, crate::specs::Admitting::admit_number, crate::specs::Admitting::admitted, field::specs::Judging::both, field::specs::Judging::unless, field::specs::Judging::also))]
 
-ghost use Rattle.std.specs.Prelude.{◌≡◌, ◌<◌};
+ghost use Rattle.std.specs.Prelude.{◌≡◌, ◌<◌, Ok};
+ghost use Rattle.field.specs.Said.{found};
 ghost use Rattle.admit.specs.Admitting.{start, before_of, placed, count_number, admit_number, admitted, admit_says};
 ghost use Rattle.admit.specs.Admitting as Admitting;
 
-use field::judge::{also, judge, third_of, unless};
-use field::{Before, Field, Form, number};
+use field::judge::{judge, require, third_of};
+use field::{Before, Fault, Field, Form};
 
 // What is kept between two fields. stage 0: a header comes next; 1: previous closes may still come; 2: trades and quotes only. metal, marks and
 // form are the header's. A previous close's instrument is at least instrument, a record's time at least time. count: the fields so far.
+// The stage is a number: `admit` says what comes behind any, and an enum would take fewer.
 #[derive(Clone, Copy)]
 pub struct Progress {
     pub stage: u8,
@@ -22,12 +24,11 @@ pub struct Progress {
     pub count: u32,
 }
 
-// A field that may come next and what is kept behind it, the right end field, or the number of a refusal.
+// A field that may come next, with what is kept behind it, or the right end field.
 #[derive(Clone, Copy)]
 pub enum Admitted {
     Next(Progress),
     Ended,
-    Refused(u8),
 }
 
 // Before the first field.
@@ -49,8 +50,7 @@ pub fn begin() -> Progress
 pub fn previous_placed(p: Progress, instrument: u8) -> bool
     ensures { result ≡ Admitting.previous_placed p instrument }
 {
-    let rises = p.instrument <= instrument as u16;
-    if p.stage == 1 { rises } else { false }
+    p.stage == 1 && p.instrument <= instrument as u16
 }
 
 // The field is in its place.
@@ -58,60 +58,19 @@ fn is_placed(p: Progress, field: Field) -> bool
     ensures { result ≡ placed p field }
 {
     match field {
-        Field::Header {
-            metal: _,
-            marks: _,
-            form: _,
-        } => p.stage == 0,
-        Field::PreviousClose {
-            instrument,
-            price: _,
-        } => previous_placed(p, instrument),
-        Field::Trade {
-            time: _,
-            instrument: _,
-            price: _,
-            lots: _,
-        } => 1 <= p.stage,
-        Field::Quote {
-            time: _,
-            instrument: _,
-            sides: _,
-            bid: _,
-            offer: _,
-        } => 1 <= p.stage,
-        Field::End { count: _ } => 1 <= p.stage,
+        Field::Header { .. } => p.stage == 0,
+        Field::PreviousClose { instrument, .. } => previous_placed(p, instrument),
+        Field::Trade { .. } | Field::Quote { .. } | Field::End { .. } => 1 <= p.stage,
     }
 }
 
 // The end field counts the fields before it.
-fn count_number(p: Progress, field: Field) -> u8
-    ensures { result ≡ count_number p field }
+fn check_count(p: Progress, field: Field) -> Result<(), Fault>
+    ensures { found result ≡ count_number p field }
 {
     match field {
-        Field::End { count } => unless(count == p.count, number::COUNT, number::FINE),
-        Field::Header {
-            metal: _,
-            marks: _,
-            form: _,
-        } => number::FINE,
-        Field::PreviousClose {
-            instrument: _,
-            price: _,
-        } => number::FINE,
-        Field::Trade {
-            time: _,
-            instrument: _,
-            price: _,
-            lots: _,
-        } => number::FINE,
-        Field::Quote {
-            time: _,
-            instrument: _,
-            sides: _,
-            bid: _,
-            offer: _,
-        } => number::FINE,
+        Field::End { count } => require(count == p.count, Fault::Count),
+        _ => Ok(()),
     }
 }
 
@@ -119,21 +78,20 @@ fn count_number(p: Progress, field: Field) -> u8
 fn before_of(p: Progress) -> Before
     ensures { result ≡ before_of p }
 {
-    let form = p.form;
-    let least = p.time;
     Before {
-        third: third_of(form),
-        time: least,
+        third: third_of(p.form),
+        time: p.time,
     }
 }
 
-// What a field earns where it stands: 1, 5, the values' number, 12, or FINE.
-fn admit_number(p: Progress, field: Field) -> u8
-    ensures { result ≡ admit_number p field }
+// What a field earns where it stands: 1, 5, the values' number, or 12.
+fn check(p: Progress, field: Field) -> Result<(), Fault>
+    ensures { found result ≡ admit_number p field }
 {
-    let values = also(judge(before_of(p), field), count_number(p, field));
-    let here = unless(is_placed(p, field), number::PLACE, values);
-    unless(p.count < 1_048_576, number::LONG, here)
+    require(p.count < 1_048_576, Fault::Long)?;
+    require(is_placed(p, field), Fault::Place)?;
+    judge(before_of(p), field)?;
+    check_count(p, field)
 }
 
 // What is kept behind a previous close.
@@ -141,11 +99,12 @@ pub fn after_previous(p: Progress, instrument: u8) -> Progress
     requires { p.count < 1048576 }
     ensures { result ≡ Admitting.after_previous p instrument }
 {
-    let mut next = p;
-    next.stage = 1;
-    next.instrument = instrument as u16 + 1;
-    next.count = p.count + 1;
-    next
+    Progress {
+        stage: 1,
+        instrument: instrument as u16 + 1,
+        count: p.count + 1,
+        ..p
+    }
 }
 
 // What is kept behind a trade or a quote.
@@ -153,11 +112,12 @@ pub fn after_record(p: Progress, time: u32) -> Progress
     requires { p.count < 1048576 }
     ensures { result ≡ Admitting.after_record p time }
 {
-    let mut next = p;
-    next.stage = 2;
-    next.time = time;
-    next.count = p.count + 1;
-    next
+    Progress {
+        stage: 2,
+        time,
+        count: p.count + 1,
+        ..p
+    }
 }
 
 // What is kept behind the header.
@@ -170,49 +130,32 @@ pub fn after_header(p: Progress, metal: u8, marks: u16, form: Form) -> Progress
         metal,
         marks,
         form,
-        instrument: p.instrument,
-        time: p.time,
         count: p.count + 1,
+        ..p
     }
 }
 
 // A field that earned no number: what is kept behind it, or the end.
 fn taken(p: Progress, field: Field) -> Admitted
     requires { p.count < 1048576 }
-    ensures { admit_says result ≡ admitted p field }
+    ensures { admit_says (Ok result) ≡ admitted p field }
 {
     match field {
         Field::Header { metal, marks, form } => {
             Admitted::Next(after_header(p, metal, marks, form))
         }
-        Field::PreviousClose {
-            instrument,
-            price: _,
-        } => Admitted::Next(after_previous(p, instrument)),
-        Field::Trade {
-            time,
-            instrument: _,
-            price: _,
-            lots: _,
-        } => Admitted::Next(after_record(p, time)),
-        Field::Quote {
-            time,
-            instrument: _,
-            sides: _,
-            bid: _,
-            offer: _,
-        } => Admitted::Next(after_record(p, time)),
-        Field::End { count: _ } => Admitted::Ended,
+        Field::PreviousClose { instrument, .. } => Admitted::Next(after_previous(p, instrument)),
+        Field::Trade { time, .. } | Field::Quote { time, .. } => {
+            Admitted::Next(after_record(p, time))
+        }
+        Field::End { .. } => Admitted::Ended,
     }
 }
 
 // Whether a field may come next.
-pub fn admit(p: Progress, field: Field) -> Admitted
+pub fn admit(p: Progress, field: Field) -> Result<Admitted, Fault>
     ensures { admit_says result ≡ Admitting.admit p field }
 {
-    let found = admit_number(p, field);
-    if found != number::FINE {
-        return Admitted::Refused(found);
-    }
-    taken(p, field)
+    check(p, field)?;
+    Ok(taken(p, field))
 }

@@ -1,5 +1,5 @@
 -- Laws of admission: no two answers of the code say the same; which case it is; and what follows where a field was admitted. Assumes nothing.
-use Rattle.std.specs.Prelude.{◌≡◌, refl, ℕ, ◌+◌, ◌≤◌, ◌<◌, Bool, true, false, ◌⊎◌, ltb, eqb}
+use Rattle.std.specs.Prelude.{◌≡◌, refl, ℕ, ◌+◌, ◌≤◌, ◌<◌, Bool, true, false, ◌⊎◌, ltb, eqb, Result, Ok, Err}
 use Rattle.std.proofs.Common.{sym, ap, ◌∙◌, inl, inr, arith, ltb-true, leb-true, eqb-true, eq-eqb, ne_eqb, lt-ltb}
 use Rattle.promise.specs.laws.Once.{through}
 use Rattle.admit.specs.declared.Admitted.{Admitted}
@@ -11,23 +11,26 @@ use Rattle.field.specs.declared.Before.{Before}
 use Rattle.field.specs.declared.Field.{Field}
 use Rattle.field.specs.declared.Field.TheVariants.{Header, PreviousClose, Trade, Quote, End}
 use Rattle.field.specs.declared.Price.{Price}
+use Rattle.field.specs.declared.Fault.{Fault}
+use Rattle.field.specs.Said.{fault_number}
+use Rattle.field.specs.laws.Said.{fault_of, fault_back, fault-not-fine}
 use Rattle.field.specs.Judging.{fine, also, alone, judge}
 use Rattle.field.specs.Layout.{form_tag, tag_of}
 use Rattle.field.specs.laws.Field.{clash, unless-fine, unless-passed, unless-all, also-fine, also-all, judge-all, both_true}
 use Rattle.field.proofs.Sound.{Sound, sound, sound-alone}
 use Rattle.admit.specs.declared.Progress.{Progress}
 
-abbrev admit-of : Step → Admitted
-admit-of (goes q) = A.Next q
-admit-of ends = A.Ended
-admit-of (stops number) = A.Refused number
+abbrev admit-of : Step → Result Admitted Fault
+admit-of (goes q) = Ok (A.Next q)
+admit-of ends = Ok A.Ended
+admit-of (stops number) = Err (fault_of number)
 
-admit-back : (r : Admitted) → admit-of (admit_says r) ≡ r
-admit-back (A.Next q) = refl
-admit-back A.Ended = refl
-admit-back (A.Refused number) = refl
+admit-back : (r : Result Admitted Fault) → admit-of (admit_says r) ≡ r
+admit-back (Ok (A.Next q)) = refl
+admit-back (Ok A.Ended) = refl
+admit-back (Err fault) = ap Err (fault_back fault)
 
-pub admit-once : {d : Step} {x y : Admitted} → admit_says x ≡ d → admit_says y ≡ d → x ≡ y
+pub admit-once : {d : Step} {x y : Result Admitted Fault} → admit_says x ≡ d → admit_says y ≡ d → x ≡ y
 admit-once p q = through admit_says admit-of admit-back p q
 
 -- ---- which case it is
@@ -39,6 +42,10 @@ admit-fine p f e = simp (eq-eqb (admit_number p f) fine e)
 pub admit-not : (p : Progress) (f : Field) → (admit_number p f ≡ fine → ⊥) → admit p f ≡ stops (admit_number p f)
 unfolding admit
 admit-not p f e = simp (ne_eqb (admit_number p f) fine e)
+
+-- the answer of a field with a fault
+pub admit-fault : (p : Progress) (f : Field) (fault : Fault) → fault_number fault ≡ admit_number p f → stops (fault_number fault) ≡ admit p f
+admit-fault p f fault e = ap stops e ∙ sym (admit-not p f (rw (sym e) (fault-not-fine fault)))
 
 -- ---- a field that was not stopped
 
