@@ -1,16 +1,16 @@
 // Whether a right field of a tag stands at a place of a sheet, judged by itself and its time put aside: one look at its bytes, and no field is made.
 // What a field that is not right earns, `field_reader` and `admit` say. Hosts don't call it.
-#![tactic(auto)]
+#![tactic(auto, unfolding(crate::specs::laws::Right::untimed))]
 
 ghost use Rattle.std.specs.Prelude.{◌≡◌, ◌≤◌, length};
-ghost use Rattle.field.specs.Layout.{header_by, previous_of, trade_of, quote_of, long_header_of};
+ghost use Rattle.field.specs.Layout.{length_of, header_by, previous_of, trade_of, quote_of, field_of};
 ghost use Rattle.right_field.specs.laws.Right.{values_right, right_at};
 
 use field::judge::{
     both_sides_right, by_itself, judge_header, judge_previous, judge_quote, judge_trade,
 };
-use field::layout::stands;
-use field::{Form, layout, number};
+use field::layout::{size_of, stands};
+use field::{Form, layout};
 use raw_reader::price_at;
 use wire::join2;
 
@@ -19,23 +19,14 @@ fn header_values(body: &[u8], form: Form) -> bool
     requires { 3 ≤ length body.now }
     ensures { result ≡ values_right (header_by form body.now) }
 {
-    let found = judge_header(body[0], join2(body[1], body[2]), form);
-    found == number::FINE
-}
-
-fn long_header_values(body: &[u8]) -> bool
-    requires { length body.now ≡ 4 }
-    ensures { result ≡ values_right (long_header_of body.now) }
-{
-    header_values(body, Form::Long(body[3]))
+    judge_header(body[0], join2(body[1], body[2]), form).is_ok()
 }
 
 fn previous_values(body: &[u8]) -> bool
     requires { length body.now ≡ 5 }
     ensures { result ≡ values_right (previous_of body.now) }
 {
-    let found = judge_previous(by_itself(), body[0], price_at(body, 1));
-    found == number::FINE
+    judge_previous(by_itself(), body[0], price_at(body, 1)).is_ok()
 }
 
 fn trade_values(body: &[u8]) -> bool
@@ -44,8 +35,7 @@ fn trade_values(body: &[u8]) -> bool
 {
     let price = price_at(body, 5);
     let lots = join2(body[9], body[10]);
-    let found = judge_trade(by_itself(), 0, body[4], price, lots);
-    found == number::FINE
+    judge_trade(by_itself(), 0, body[4], price, lots).is_ok()
 }
 
 // Most quotes have both sides, and need fewer comparisons.
@@ -58,69 +48,33 @@ fn quote_values(body: &[u8]) -> bool
     let bid = price_at(body, 6);
     let offer = price_at(body, 10);
     if sides == 3 {
-        return both_sides_right(instrument, bid, offer);
-    }
-    let found = judge_quote(by_itself(), 0, instrument, sides, bid, offer);
-    found == number::FINE
-}
-
-// A right field of the tag stands at the place.
-pub fn right_header(sheet: &[u8], at: usize) -> bool
-    ensures { result ≡ right_at sheet.now at 1 }
-{
-    if stands(sheet, at, layout::HEADER) {
-        let start = at + 3;
-        let next = at + 6;
-        header_values(&sheet[start..next], Form::Short)
+        both_sides_right(instrument, bid, offer)
     } else {
-        false
+        judge_quote(by_itself(), 0, instrument, sides, bid, offer).is_ok()
     }
 }
 
-pub fn right_long_header(sheet: &[u8], at: usize) -> bool
-    ensures { result ≡ right_at sheet.now at 6 }
+// The values of the body of a field of the tag earn no number.
+#[tactic(auto, using(crate::specs::laws::Right::no_tag), unfolding(field::specs::Layout::field_of, field::specs::Judging::judge, crate::specs::laws::Right::untimed))]
+fn body_values<const TAG: u8>(body: &[u8]) -> bool
+    requires { length body.now ≡ length_of TAG }
+    ensures { result ≡ values_right (field_of TAG body.now) }
 {
-    if stands(sheet, at, layout::LONG_HEADER) {
-        let start = at + 3;
-        let next = at + 7;
-        long_header_values(&sheet[start..next])
-    } else {
-        false
+    match TAG {
+        layout::HEADER => header_values(body, Form::Short),
+        layout::PREVIOUS_CLOSE => previous_values(body),
+        layout::TRADE => trade_values(body),
+        layout::QUOTE => quote_values(body),
+        layout::END => true,
+        layout::LONG_HEADER => header_values(body, Form::Long(body[3])),
+        _ => false,
     }
 }
 
-pub fn right_previous(sheet: &[u8], at: usize) -> bool
-    ensures { result ≡ right_at sheet.now at 2 }
+// A right field of the tag stands at the place. The tag is known when a program is compiled, so that each has its own tests and no others.
+#[tactic(auto, unfolding(field::specs::laws::Standing::stands, field::specs::Judging::both))]
+pub fn right_at<const TAG: u8>(sheet: &[u8], at: usize) -> bool
+    ensures { result ≡ right_at sheet.now at TAG }
 {
-    if stands(sheet, at, layout::PREVIOUS_CLOSE) {
-        let start = at + 3;
-        let next = at + 8;
-        previous_values(&sheet[start..next])
-    } else {
-        false
-    }
-}
-
-pub fn right_trade(sheet: &[u8], at: usize) -> bool
-    ensures { result ≡ right_at sheet.now at 3 }
-{
-    if stands(sheet, at, layout::TRADE) {
-        let start = at + 3;
-        let next = at + 14;
-        trade_values(&sheet[start..next])
-    } else {
-        false
-    }
-}
-
-pub fn right_quote(sheet: &[u8], at: usize) -> bool
-    ensures { result ≡ right_at sheet.now at 4 }
-{
-    if stands(sheet, at, layout::QUOTE) {
-        let start = at + 3;
-        let next = at + 17;
-        quote_values(&sheet[start..next])
-    } else {
-        false
-    }
+    stands(sheet, at, TAG) && body_values::<TAG>(&sheet[at + 3..at + size_of(TAG)])
 }

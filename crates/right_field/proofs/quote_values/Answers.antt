@@ -1,11 +1,7 @@
 -- `right_field::quote_values` meets its contract. Assumes nothing.
-use Rattle.right_field.specs.laws.Right.{untimed, values-as, quote-values}
-use borrow.Author.Rules.{rules}
+use Rattle.std.proofs.Common.{rules}
+use Rattle.right_field.specs.laws.Right.{quote-values}
 use Rattle.right_field.proofs.quote_values.Goals as goal
 
 pub returns-then-sides-eq3 : goal.returns-then-sides-eq3
 returns-then-sides-eq3 c = search (quote-values, rules)
-
-pub returns : goal.returns
-unfolding untimed
-returns c = search (values-as, rules)

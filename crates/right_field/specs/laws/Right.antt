@@ -4,14 +4,14 @@
 --     Right, right  what is known where it holds
 --     timed         with an instrument that is let be and a right time they earn none at all
 -- Assumes nothing.
-use Rattle.std.specs.Prelude.{ℕ, ◌+◌, ◌-◌, ◌≤◌, ◌≡◌, Bool, true, false, List, eqb, get_or, take, drop}
-use Rattle.std.proofs.Common.{sym, ◌∙◌, eqb-true}
+use Rattle.std.specs.Prelude.{ℕ, zero, suc, refl, ◌+◌, ◌-◌, ◌≤◌, ◌≡◌, Bool, true, false, List, [], ◌∷◌, length, eqb, get_or, take, drop}
+use Rattle.std.proofs.Common.{sym, ◌∙◌, arith, eqb-true, ne_eqb}
 use Rattle.field.specs.declared.Price.{Price}
 use Rattle.field.specs.declared.Before.{Before}
 use Rattle.field.specs.declared.Field.{Field}
 use Rattle.field.specs.declared.Field.TheVariants.{Header, PreviousClose, Trade, Quote, End}
-use Rattle.field.specs.Judging.{fine, both, allowed, alone, judge}
-use Rattle.field.specs.Layout.{tag_right, size_of, price_at, quote_of, field_of}
+use Rattle.field.specs.Judging.{fine, unless, both, allowed, alone, judge}
+use Rattle.field.specs.Layout.{tag_right, length_of, size_of, price_at, quote_of, field_of}
 use Rattle.field.specs.laws.Field.{part-is, both_true}
 use Rattle.field.proofs.Sound.{Sound, sound, judge-sound}
 use Rattle.field.specs.laws.Ends.{both_sides_right}
@@ -51,6 +51,27 @@ values-as g none e same = rw (e, none, same)
 pub quote-values : (b : List ℕ) {r : Bool} {bid offer : Price} → r ≡ both_sides_right (get_or b 4 0) bid offer → get_or b 5 0 ≡ 3 → bid ≡ price_at b 6 → offer ≡ price_at b 10 → r ≡ values_right (quote_of b)
 unfolding untimed
 quote-values b {r} {bid} {offer} e three low high = e ∙ both-sides (get_or b 4 0) bid offer ∙ rw (three, low, high)
+
+-- a tag that is none of the six has no body, and then its metal is none
+abbrev pub NoTag : ℕ → Type 0
+NoTag tag = (k : ℕ) → 1 ≤ k → k ≤ 6 → tag ≡ k → ⊥
+
+no_body : (tag : ℕ) → NoTag tag → length_of tag ≡ 0
+no_body zero none = refl
+no_body (suc zero) none = absurd (none 1 (omega arith) (omega arith) refl)
+no_body (suc (suc zero)) none = absurd (none 2 (omega arith) (omega arith) refl)
+no_body (suc (suc (suc zero))) none = absurd (none 3 (omega arith) (omega arith) refl)
+no_body (suc (suc (suc (suc zero)))) none = absurd (none 4 (omega arith) (omega arith) refl)
+no_body (suc (suc (suc (suc (suc zero))))) none = absurd (none 5 (omega arith) (omega arith) refl)
+no_body (suc (suc (suc (suc (suc (suc zero)))))) none = absurd (none 6 (omega arith) (omega arith) refl)
+no_body (suc (suc (suc (suc (suc (suc (suc n))))))) none = refl
+
+pub no_tag : (tag : ℕ) (b : List ℕ) → length b ≡ length_of tag → NoTag tag → false ≡ values_right (field_of tag b)
+unfolding field_of untimed judge both unless
+no_tag tag [] e none =
+    let other : (k : ℕ) → 1 ≤ k → k ≤ 6 → eqb tag k ≡ false = λ k l h. ne_eqb tag k (none k l h) in
+    simp (other 1 (omega arith) (omega arith), other 2 (omega arith) (omega arith), other 3 (omega arith) (omega arith), other 4 (omega arith) (omega arith), other 5 (omega arith) (omega arith)) refl
+no_tag tag (x ∷ l) e none = absurd (omega (arith, no_body tag none))
 
 -- ---- what follows
 
