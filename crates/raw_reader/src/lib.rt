@@ -3,9 +3,9 @@
 #![tactic(auto)]
 
 ghost use Rattle.std.specs.Prelude.{◌≡◌, true, ◌+◌, ◌≤◌, length};
-ghost use Rattle.field.specs.Layout.{tag_right, length_of, header_of, previous_of, trade_of, quote_of, end_of, long_header_of, price_at, field_of};
+ghost use Rattle.field.specs.Layout.{tag_right, length_of, header_by, previous_of, trade_of, quote_of, end_of, price_at, field_of};
 
-use field::{Field, Form, Price};
+use field::{Field, Form, Price, layout};
 use wire::{join2, join4, signed_of};
 
 // The price at a place of a body.
@@ -18,14 +18,14 @@ pub fn price_at(body: &[u8], at: usize) -> Price
     }
 }
 
-fn header_of(body: &[u8]) -> Field
-    requires { length body.now ≡ 3 }
-    ensures { result ≡ header_of body.now }
+fn header_by(form: Form, body: &[u8]) -> Field
+    requires { 3 ≤ length body.now }
+    ensures { result ≡ header_by form body.now }
 {
     Field::Header {
         metal: body[0],
         marks: join2(body[1], body[2]),
-        form: Form::Short,
+        form,
     }
 }
 
@@ -77,28 +77,18 @@ pub fn end_of(body: &[u8]) -> Field
     }
 }
 
-fn long_header_of(body: &[u8]) -> Field
-    requires { length body.now ≡ 4 }
-    ensures { result ≡ long_header_of body.now }
-{
-    Field::Header {
-        metal: body[0],
-        marks: join2(body[1], body[2]),
-        form: Form::Long(body[3]),
-    }
-}
-
 // The values of a tag's body.
+#[tactic(auto, unfolding(field::specs::Layout::field_of, field::specs::Judging::both))]
 pub fn field_of(tag: u8, body: &[u8]) -> Field
     requires { (tag_right tag ≡ true) × (length body.now ≡ length_of tag) }
     ensures { result ≡ field_of tag body.now }
 {
     match tag {
-        1 => header_of(body),
-        2 => previous_of(body),
-        3 => trade_of(body),
-        4 => quote_of(body),
-        5 => end_of(body),
-        _ => long_header_of(body),
+        layout::HEADER => header_by(Form::Short, body),
+        layout::PREVIOUS_CLOSE => previous_of(body),
+        layout::TRADE => trade_of(body),
+        layout::QUOTE => quote_of(body),
+        layout::END => end_of(body),
+        _ => header_by(Form::Long(body[3]), body),
     }
 }
