@@ -1,262 +1,154 @@
-// Reads one field at a place of a sheet: its values with the place behind it, or the first number it earns; and its body as a part of the sheet.
-#![tactic(auto)]
+// Reads one field at a place of a sheet: its values with the place behind it, or the first fault that it earns; and its body as a part of the sheet.
+#![tactic(auto, using(crate::specs::laws::Heads::given_read, crate::specs::laws::Heads::fault_read), unfolding(field::specs::Judging::unless, field::specs::Judging::both, field::specs::Said::settled, field::specs::Reading::head_number, field::specs::Reading::shape_at, field::specs::Reading::read_field))]
 
-ghost use Rattle.std.specs.Prelude.{◌≡◌, ◌≤◌, length, get_or};
-ghost use Rattle.field.specs.declared.Field.TheVariants as F;
-ghost use Rattle.field.specs.Judging as Judging;
-ghost use Rattle.field.specs.Judging.{alone};
-ghost use Rattle.field.specs.Layout.{header_by, previous_of, trade_of, quote_of, long_header_of};
-ghost use Rattle.field.specs.Said.{read_says, settled};
-ghost use Rattle.field.specs.Reading.{tagged_number, head_number, shape_at, read_field, body_of};
-ghost use Rattle.field_reader.specs.laws.Heads.{Heads};
+ghost use Rattle.std.specs.Prelude.{◌≡◌, ◌≤◌, true, length, get_or};
+ghost use Rattle.field.specs.Layout.{tag_right, length_of, header_by, previous_of, trade_of, quote_of, field_of};
+ghost use Rattle.field.specs.Said.{found, read_says};
+ghost use Rattle.field.specs.Reading.{head_number, shape_at, read_field, body_of};
+ghost use Rattle.field_reader.specs.laws.Heads.{Judged, said_at};
 
-use field::judge::{by_itself, judge_header, judge_previous, judge_quote, judge_trade, unless};
+use field::judge::{by_itself, judge_header, judge_previous, judge_quote, judge_trade, require};
 use field::layout::{length_of, remaining, size_of, tag_right};
-use field::{Field, Form, Price, Read, layout, number};
+use field::{Fault, Field, Form, Refusal, layout};
 use raw_reader::{end_of, field_of, price_at};
 use wire::{join2, join4};
 
-// What a whole head earns by its tag, the length it tells and the bytes that remain: 3, 4, 2 for the body, or FINE.
-fn tagged_number(tag: u8, told: u16, rest: usize) -> u8
-    ensures { result ≡ tagged_number tag told rest }
-{
-    let body = unless(size_of(tag) <= rest, number::BYTES, number::FINE);
-    let length = unless(told == length_of(tag), number::LENGTH, body);
-    unless(tag_right(tag), number::TAG, length)
-}
-
-// What the head at a place earns: 2 where it is not whole, then the rest.
-fn head_number(sheet: &[u8], at: usize) -> u8
-    ensures { result ≡ head_number sheet.now at (get_or sheet.now at 0) }
+// What the head at a place earns under a tag: 2 where it is not whole, then 3, 4, and 2 for the body.
+fn judge_head(sheet: &[u8], at: usize, tag: u8) -> Result<(), Fault>
+    ensures { found result ≡ head_number sheet.now at tag }
 {
     let rest = remaining(sheet.len(), at);
     if rest < 3 {
-        return number::BYTES;
+        return Err(Fault::Bytes);
     }
-    let length = at + 1;
-    let told = join2(sheet[length], sheet[length + 1]);
-    tagged_number(sheet[at], told, rest)
+    require(tag_right(tag), Fault::Tag)?;
+    let told = join2(sheet[at + 1], sheet[at + 2]);
+    require(told == length_of(tag), Fault::Length)?;
+    require(size_of(tag) <= rest, Fault::Bytes)
 }
 
 // The field at a place, its values not yet judged.
-pub fn shape_at(sheet: &[u8], at: usize) -> Read
+pub fn shape_at(sheet: &[u8], at: usize) -> Result<(Field, usize), Refusal>
     ensures { read_says result ≡ shape_at sheet.now at }
 {
-    let found = head_number(sheet, at);
-    if found != number::FINE {
-        return Read::Refused(found, at);
-    }
-    let tag = sheet[at];
-    let start = at + 3;
+    let tag = sheet.get(at).copied().unwrap_or(0);
+    judge_head(sheet, at, tag).map_err(|fault| Refusal { fault, at })?;
     let next = at + size_of(tag);
-    Read::Field(field_of(tag, &sheet[start..next]), next)
-}
-
-// A number that was found with the place at which the field starts; where none was, the field with the place behind it.
-fn settle(found: u8, at: usize, field: Field, next: usize) -> Read
-    ensures { read_says result ≡ settled found at field next }
-{
-    if found == number::FINE {
-        Read::Field(field, next)
-    } else {
-        Read::Refused(found, at)
-    }
+    Ok((field_of(tag, &sheet[at + 3..next]), next))
 }
 
 // A body's values judged by themselves, by its tag: as numbers, so that no field is made before it is right.
-fn header_read(body: &[u8], form: Form, at: usize, next: usize) -> Read
+fn header_values(body: &[u8], form: Form) -> Result<Field, Fault>
     requires { 3 ≤ length body.now }
-    ensures { read_says result ≡ settled (Judging.judge alone (header_by form body.now)) at (header_by form body.now) next }
+    ensures { Judged (header_by form body.now) result }
 {
     let metal = body[0];
     let marks = join2(body[1], body[2]);
-    let found = judge_header(metal, marks, form);
-    settle(found, at, Field::Header { metal, marks, form }, next)
+    judge_header(metal, marks, form)?;
+    Ok(Field::Header { metal, marks, form })
 }
 
-fn long_header_read(body: &[u8], at: usize, next: usize) -> Read
-    requires { length body.now ≡ 4 }
-    ensures { read_says result ≡ settled (Judging.judge alone (long_header_of body.now)) at (long_header_of body.now) next }
-{
-    header_read(body, Form::Long(body[3]), at, next)
-}
-
-fn previous_read(body: &[u8], at: usize, next: usize) -> Read
+fn previous_values(body: &[u8]) -> Result<Field, Fault>
     requires { length body.now ≡ 5 }
-    ensures { read_says result ≡ settled (Judging.judge alone (previous_of body.now)) at (previous_of body.now) next }
+    ensures { Judged (previous_of body.now) result }
 {
     let instrument = body[0];
     let price = price_at(body, 1);
-    let found = judge_previous(by_itself(), instrument, price);
-    settle(found, at, Field::PreviousClose { instrument, price }, next)
+    judge_previous(by_itself(), instrument, price)?;
+    Ok(Field::PreviousClose { instrument, price })
 }
 
-fn trade_read(body: &[u8], at: usize, next: usize) -> Read
+fn trade_values(body: &[u8]) -> Result<Field, Fault>
     requires { length body.now ≡ 11 }
-    ensures { read_says result ≡ settled (Judging.judge alone (trade_of body.now)) at (trade_of body.now) next }
+    ensures { Judged (trade_of body.now) result }
 {
     let time = join4(body[0], body[1], body[2], body[3]);
     let instrument = body[4];
     let price = price_at(body, 5);
     let lots = join2(body[9], body[10]);
-    let found = judge_trade(by_itself(), time, instrument, price, lots);
-    let field = Field::Trade {
+    judge_trade(by_itself(), time, instrument, price, lots)?;
+    Ok(Field::Trade {
         time,
         instrument,
         price,
         lots,
-    };
-    settle(found, at, field, next)
+    })
 }
 
-// Most quotes have both sides: told so, the compiler leaves the tests of absent sides out.
-fn quote_number(time: u32, instrument: u8, sides: u8, bid: Price, offer: Price) -> u8
-    ensures { result ≡ Judging.judge alone (F.Quote time instrument sides bid offer) }
-{
-    if sides == 3 {
-        judge_quote(by_itself(), time, instrument, 3, bid, offer)
-    } else {
-        judge_quote(by_itself(), time, instrument, sides, bid, offer)
-    }
-}
-
-fn quote_read(body: &[u8], at: usize, next: usize) -> Read
+fn quote_values(body: &[u8]) -> Result<Field, Fault>
     requires { length body.now ≡ 14 }
-    ensures { read_says result ≡ settled (Judging.judge alone (quote_of body.now)) at (quote_of body.now) next }
+    ensures { Judged (quote_of body.now) result }
 {
     let time = join4(body[0], body[1], body[2], body[3]);
     let instrument = body[4];
     let sides = body[5];
     let bid = price_at(body, 6);
     let offer = price_at(body, 10);
-    let found = quote_number(time, instrument, sides, bid, offer);
-    let field = Field::Quote {
+    // Most quotes have both sides: told so, the compiler leaves the tests of absent sides out.
+    if sides == 3 {
+        judge_quote(by_itself(), time, instrument, 3, bid, offer)?;
+    } else {
+        judge_quote(by_itself(), time, instrument, sides, bid, offer)?;
+    }
+    Ok(Field::Quote {
         time,
         instrument,
         sides,
         bid,
         offer,
-    };
-    settle(found, at, field, next)
+    })
 }
 
-// The field at a place whose head tells this tag and this length, with so many bytes from the place on: 4, 2 or what its values earn.
-fn header_at(sheet: &[u8], at: usize, told: u16, rest: usize) -> Read
-    requires { Heads sheet.now at 1 told rest }
-    ensures { read_says result ≡ read_field sheet.now at }
+// The values of a body of the tag.
+#[tactic(auto, unfolding(field::specs::Layout::field_of, field::specs::Judging::judge, field::specs::Judging::both))]
+fn body_values<const TAG: u8>(body: &[u8]) -> Result<Field, Fault>
+    requires { (tag_right TAG ≡ true) × (length body.now ≡ length_of TAG) }
+    ensures { Judged (field_of TAG body.now) result }
 {
-    let found = tagged_number(layout::HEADER, told, rest);
-    if found != number::FINE {
-        return Read::Refused(found, at);
+    match TAG {
+        layout::HEADER => header_values(body, Form::Short),
+        layout::PREVIOUS_CLOSE => previous_values(body),
+        layout::TRADE => trade_values(body),
+        layout::QUOTE => quote_values(body),
+        layout::END => Ok(end_of(body)),
+        _ => header_values(body, Form::Long(body[3])),
     }
-    let start = at + 3;
-    let next = at + 6;
-    header_read(&sheet[start..next], Form::Short, at, next)
 }
 
-fn previous_at(sheet: &[u8], at: usize, told: u16, rest: usize) -> Read
-    requires { Heads sheet.now at 2 told rest }
-    ensures { read_says result ≡ read_field sheet.now at }
+// The field at a place where the tag stands. The tag is known when a program is compiled, so that each has its own tests and no others.
+fn field_as<const TAG: u8>(sheet: &[u8], at: usize) -> Result<(Field, usize), Fault>
+    requires { get_or sheet.now at 0 ≡ TAG }
+    ensures { said_at at result ≡ read_field sheet.now at }
 {
-    let found = tagged_number(layout::PREVIOUS_CLOSE, told, rest);
-    if found != number::FINE {
-        return Read::Refused(found, at);
-    }
-    let start = at + 3;
-    let next = at + 8;
-    previous_read(&sheet[start..next], at, next)
-}
-
-fn trade_at(sheet: &[u8], at: usize, told: u16, rest: usize) -> Read
-    requires { Heads sheet.now at 3 told rest }
-    ensures { read_says result ≡ read_field sheet.now at }
-{
-    let found = tagged_number(layout::TRADE, told, rest);
-    if found != number::FINE {
-        return Read::Refused(found, at);
-    }
-    let start = at + 3;
-    let next = at + 14;
-    trade_read(&sheet[start..next], at, next)
-}
-
-fn quote_at(sheet: &[u8], at: usize, told: u16, rest: usize) -> Read
-    requires { Heads sheet.now at 4 told rest }
-    ensures { read_says result ≡ read_field sheet.now at }
-{
-    let found = tagged_number(layout::QUOTE, told, rest);
-    if found != number::FINE {
-        return Read::Refused(found, at);
-    }
-    let start = at + 3;
-    let next = at + 17;
-    quote_read(&sheet[start..next], at, next)
-}
-
-fn end_at(sheet: &[u8], at: usize, told: u16, rest: usize) -> Read
-    requires { Heads sheet.now at 5 told rest }
-    ensures { read_says result ≡ read_field sheet.now at }
-{
-    let found = tagged_number(layout::END, told, rest);
-    if found != number::FINE {
-        return Read::Refused(found, at);
-    }
-    let start = at + 3;
-    let next = at + 7;
-    Read::Field(end_of(&sheet[start..next]), next)
-}
-
-fn long_header_at(sheet: &[u8], at: usize, told: u16, rest: usize) -> Read
-    requires { Heads sheet.now at 6 told rest }
-    ensures { read_says result ≡ read_field sheet.now at }
-{
-    let found = tagged_number(layout::LONG_HEADER, told, rest);
-    if found != number::FINE {
-        return Read::Refused(found, at);
-    }
-    let start = at + 3;
-    let next = at + 7;
-    long_header_read(&sheet[start..next], at, next)
+    judge_head(sheet, at, TAG)?;
+    let next = at + size_of(TAG);
+    let field = body_values::<TAG>(&sheet[at + 3..next])?;
+    Ok((field, next))
 }
 
 // The same by the tag that stands there: first those that most fields have.
-fn tagged_at(sheet: &[u8], at: usize, told: u16, rest: usize) -> Read
-    requires { Heads sheet.now at (get_or sheet.now at 0) told rest }
-    ensures { read_says result ≡ read_field sheet.now at }
+fn field_at(sheet: &[u8], at: usize) -> Result<(Field, usize), Fault>
+    ensures { said_at at result ≡ read_field sheet.now at }
 {
-    let tag = sheet[at];
-    if tag == layout::TRADE {
-        return trade_at(sheet, at, told, rest);
+    if remaining(sheet.len(), at) < 3 {
+        return Err(Fault::Bytes);
     }
-    if tag == layout::QUOTE {
-        return quote_at(sheet, at, told, rest);
+    match sheet[at] {
+        layout::TRADE => field_as::<{ layout::TRADE }>(sheet, at),
+        layout::QUOTE => field_as::<{ layout::QUOTE }>(sheet, at),
+        layout::PREVIOUS_CLOSE => field_as::<{ layout::PREVIOUS_CLOSE }>(sheet, at),
+        layout::HEADER => field_as::<{ layout::HEADER }>(sheet, at),
+        layout::END => field_as::<{ layout::END }>(sheet, at),
+        layout::LONG_HEADER => field_as::<{ layout::LONG_HEADER }>(sheet, at),
+        _ => Err(Fault::Tag),
     }
-    if tag == layout::PREVIOUS_CLOSE {
-        return previous_at(sheet, at, told, rest);
-    }
-    if tag == layout::HEADER {
-        return header_at(sheet, at, told, rest);
-    }
-    if tag == layout::END {
-        return end_at(sheet, at, told, rest);
-    }
-    if tag == layout::LONG_HEADER {
-        return long_header_at(sheet, at, told, rest);
-    }
-    Read::Refused(number::TAG, at)
 }
 
 // The field at a place, its values judged by themselves.
-pub fn read_field(sheet: &[u8], at: usize) -> Read
+pub fn read_field(sheet: &[u8], at: usize) -> Result<(Field, usize), Refusal>
     ensures { read_says result ≡ read_field sheet.now at }
 {
-    let bytes = remaining(sheet.len(), at);
-    if bytes < 3 {
-        return Read::Refused(number::BYTES, at);
-    }
-    let length = at + 1;
-    let told = join2(sheet[length], sheet[length + 1]);
-    tagged_at(sheet, at, told, bytes)
+    field_at(sheet, at).map_err(|fault| Refusal { fault, at })
 }
 
 // The body of the field at a place, as a part of the sheet; an empty part where read_field refuses.
@@ -264,7 +156,7 @@ pub fn field_body<'a>(sheet: &'a [u8], at: usize) -> &'a [u8]
     ensures { result.now ≡ body_of sheet.now at }
 {
     match read_field(sheet, at) {
-        Read::Field(_, next) => &sheet[at + 3..next],
-        Read::Refused(_, _) => &sheet[..0],
+        Ok((_, next)) => &sheet[at + 3..next],
+        Err(_) => &sheet[..0],
     }
 }
