@@ -1,12 +1,11 @@
 -- SHEET 4 and 5 over a whole sheet: accepted, or the first number and its byte.
-use Rattle.std.specs.Prelude.{ℕ, ◌+◌, cond, List, [], ◌∷◌, leb, eqb, length}
+use Rattle.std.specs.Prelude.{ℕ, ◌+◌, cond, List, [], ◌∷◌, leb, eqb, length, Result, Ok, Err}
 use Rattle.field.specs.declared.Field.{Field}
-use Rattle.field.specs.Said.{Said, gives, refuses}
+use Rattle.field.specs.declared.Refusal.{Refusal}
+use Rattle.field.specs.Said.{Said, gives, refuses, fault_number}
 use Rattle.admit.specs.declared.Progress.{Progress}
 use Rattle.admit.specs.Admitting.{start, Step, goes, ends, stops, admit}
 use Rattle.sheet.specs.declared.Day.{Day}
-use Rattle.sheet.specs.declared.Judged.{Judged}
-use Rattle.sheet.specs.declared.Judged.TheVariants as J
 use Rattle.sheet.specs.Fields.{reads_at}
 
 -- what is said of a sheet: accepted, with the header's values and the number of fields; or no, with a number of the table and a byte
@@ -41,6 +40,6 @@ judge_sheet s = cond (leb (length s) 1048576) (judge_reads (length s) 0 start (r
 
 -- ---- what each answer of the code says
 
-abbrev pub judged_says : Judged → Verdict
-judged_says (J.Accepted day) = accepts day
-judged_says (J.Refused number at) = refuses-at number at
+abbrev pub judged_says : Result Day Refusal → Verdict
+judged_says (Ok day) = accepts day
+judged_says (Err refusal) = refuses-at (fault_number refusal.fault) refusal.at

@@ -6,8 +6,5 @@ use Rattle.sheet.proofs.judge_end.Goals as goal
 pub number_behind-count-requires : goal.number_behind-count-requires
 number_behind-count-requires c = search (end-inside, rules)
 
-pub at_end-requires : goal.at_end-requires
-at_end-requires c = search (end-room, rules)
-
 pub returns-then-count-progress : goal.returns-then-count-progress
 returns-then-count-progress c = search (end-next, rules)

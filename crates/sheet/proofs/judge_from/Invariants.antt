@@ -3,8 +3,8 @@ use Rattle.sheet.specs.laws.Walk.{left}
 use Rattle.sheet.specs.laws.Track.{OnTrack}
 use Rattle.sheet.proofs.judge_from.Given as goal
 
-abbrev pub invariant-loop-found : goal.invariant-loop-found
-invariant-loop-found l = OnTrack l.sheet l.at l.progress
+abbrev pub invariant-loop-field : goal.invariant-loop-field
+invariant-loop-field l = OnTrack l.sheet l.at l.progress
 
-abbrev pub decreases-loop-found : goal.decreases-loop-found
-decreases-loop-found l = left l.sheet l.at
+abbrev pub decreases-loop-field : goal.decreases-loop-field
+decreases-loop-field l = left l.sheet l.at

@@ -1,7 +1,6 @@
 -- `sheet::judge_sheet` meets its contract. Assumes nothing.
 use borrow.Author.Rules.{rules}
 use Rattle.sheet.specs.laws.Track.{too_long, at-start}
-use Rattle.sheet.specs.laws.Past.{header-inside, header-whole, opened}
 use Rattle.sheet.proofs.judge_sheet.Goals as goal
 
 pub returns-then-sheet-gt1048576 : goal.returns-then-sheet-gt1048576
@@ -9,12 +8,3 @@ returns-then-sheet-gt1048576 c = search (too_long, rules)
 
 pub judge_from-requires : goal.judge_from-requires
 judge_from-requires c = search (at-start, rules)
-
-pub header_form-form-requires : goal.header_form-form-requires
-header_form-form-requires c = search (header-inside, rules)
-
-pub header_kept-requires : goal.header_kept-requires
-header_kept-requires c = search (header-whole, rules)
-
-pub judge_behind-requires : goal.judge_behind-requires
-judge_behind-requires c = search (opened, rules)

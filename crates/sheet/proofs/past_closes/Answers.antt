@@ -6,20 +6,11 @@ use Rattle.sheet.proofs.past_closes.Goals as goal
 
 ruleset closing = (close-room, close-next, close-less, rules)
 
-pub loop-instrument-init : goal.loop-instrument-init
-loop-instrument-init c = search closing
-
-pub right_previous-requires : goal.right_previous-requires
-right_previous-requires c = search closing
-
 pub overflow_add-instrument : goal.overflow_add-instrument
-overflow_add-instrument c = omega (arith, right-whole _ _ 2 c.right_previous.ensures c.if-right_previous.true)
+overflow_add-instrument c = omega (arith, right-whole _ _ 2 c.right_at.ensures c.loop-instrument-test.true)
 
 pub bounds-sheet-at : goal.bounds-sheet-at
-bounds-sheet-at c = omega (arith, right-whole _ _ 2 c.right_previous.ensures c.if-right_previous.true)
-
-pub close_next-requires : goal.close_next-requires
-close_next-requires c = search closing
+bounds-sheet-at c = omega (arith, right-whole _ _ 2 c.right_at.ensures c.loop-instrument-test.true)
 
 pub after_previous-progress-requires : goal.after_previous-progress-requires
 after_previous-progress-requires c = search closing
@@ -32,9 +23,3 @@ loop-instrument-smaller c = search closing
 
 pub loop-instrument-preserved : goal.loop-instrument-preserved
 loop-instrument-preserved c = search closing
-
-pub returns-else-close_next : goal.returns-else-close_next
-returns-else-close_next c = search closing
-
-pub returns-else-right_previous : goal.returns-else-right_previous
-returns-else-right_previous c = search closing

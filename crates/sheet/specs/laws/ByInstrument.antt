@@ -6,12 +6,12 @@
 --     here-..              the field that stands at the place, by its tag;  size-..    the bytes of a trade and of a quote
 --     pass-..              the pass begins, goes on behind a field, and ends
 -- Assumes nothing.
-use Rattle.std.specs.Prelude.{ℕ, ◌+◌, ◌≤◌, ◌<◌, ◌≡◌, refl, Bool, true, false, List, [], ◌∷◌, ◌++◌, eqb, length, get_or, set}
+use Rattle.std.specs.Prelude.{ℕ, ◌+◌, ◌≤◌, ◌<◌, ◌≡◌, refl, Bool, true, false, List, [], ◌∷◌, ◌++◌, eqb, length, get_or, set, Ok, Err}
 use Rattle.std.proofs.Common.{sym, ap, subst, ◌∙◌, arith, eqb-true, length-set, get_or-set_same, get_or-set_other}
 use Rattle.std.proofs.Math.Path.{subst⁻¹}
 use Rattle.std.proofs.lemmas.Bool.{eqb-false}
 use Rattle.field.specs.declared.Field.{Field}
-use Rattle.field.specs.declared.Read.TheVariants as R
+use Rattle.field.specs.declared.Fault.TheVariants.{Bytes}
 use Rattle.field.specs.Layout.{size_of, field_of}
 use Rattle.field.specs.Said.{gives}
 use Rattle.field.specs.Reading.{body_at, shape_at}
@@ -122,7 +122,7 @@ module _ {A : Type 0} (h : ℕ → List Field → A) (d : A) (s : List ℕ) wher
   module _ (at : ℕ) (xs : List A) (o : Passing h d s at xs) where
     -- behind the last field
     pub pass-last : length s ≤ at → Kept h d (fields_of s) xs
-    pass-last l = subst (λ (fs : List Field). Kept h d fs xs) (sofar-stop (λ fs. fs) s at o.before o.sofar {r = R.Refused 2 at} (sym (shape-past s at l)) refl) o.kept
+    pass-last l = subst (λ (fs : List Field). Kept h d fs xs) (sofar-stop (λ fs. fs) s at o.before o.sofar {r = Err (record { fault = Bytes; at = at })} (sym (shape-past s at l)) refl) o.kept
 
     -- the fields before the place are right, and no more than its bytes
     pub pass-sounds : Filled s → Each (Sound alone) o.before
@@ -136,13 +136,13 @@ module _ {A : Type 0} (h : ℕ → List Field → A) (d : A) (s : List ℕ) wher
       pass-here = here-at s at o.stood l
 
       pub pass-right : Filled s → Sound alone pass-here.field
-      pass-right f = sofar-here (λ fs. fs) s at o.before o.sofar {r = R.Field pass-here.field pass-here.next} (sym pass-here.shape) (Sound alone) f.sound refl
+      pass-right f = sofar-here (λ fs. fs) s at o.before o.sofar {r = Ok (pass-here.field, pass-here.next)} (sym pass-here.shape) (Sound alone) f.sound refl
 
       -- behind the field that stands there
       pub pass-next : {tag n : ℕ} → tag ≡ get_or s at 0 → n ≡ size_of tag → {ys : List A} → Kept h d (o.before ++ (pass-here.field ∷ [])) ys → Passing h d s (at + n) ys
       pass-next k e kept = rw (sym (here-behind s at pass-here k e)) (record {
         before = o.before ++ (pass-here.field ∷ []);
-        sofar = sofar-next (λ fs. fs) s at o.before o.sofar {r = R.Field pass-here.field pass-here.next} (sym pass-here.shape) (λ fs f. fs ++ (f ∷ [])) (λ fs f. refl) refl refl;
+        sofar = sofar-next (λ fs. fs) s at o.before o.sofar {r = Ok (pass-here.field, pass-here.next)} (sym pass-here.shape) (λ fs f. fs ++ (f ∷ [])) (λ fs f. refl) refl refl;
         kept = kept;
         stood = pass-here.rest;
       })

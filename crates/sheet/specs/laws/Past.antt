@@ -2,10 +2,11 @@
 --     Opened    on the way, behind the header, no record yet
 --     Nearly    on the way as soon as the last time is one of the day: times never fall, so then all before it are
 -- The premises are the facts as they stand in the code. Assumes nothing.
-use Rattle.std.specs.Prelude.{ℕ, ◌+◌, ◌<◌, ◌≤◌, ◌≡◌, Bool, List, ◌⊎◌, leb, eqb, length, get_or, take, drop}
+use Rattle.std.specs.Prelude.{ℕ, ◌+◌, ◌<◌, ◌≤◌, ◌≡◌, Bool, List, ◌⊎◌, leb, eqb, length, get_or, take, drop, Option, Some, None}
 use Rattle.std.proofs.Math.Path.{refl, sym, ap}
-use Rattle.std.proofs.Common.{◌∙◌, inl, inr, arith, le-leb, eq-eqb, Fits}
+use Rattle.std.proofs.Common.{◌∙◌, inl, inr, arith, le-leb, eq-eqb, eqb-true, Fits}
 use Rattle.std.proofs.Math.Bool.{true, false, cond}
+use Rattle.std.proofs.lemmas.Bool.{eqb-false}
 use Rattle.std.specs.Int.{w64}
 use Rattle.wire.specs.Big.{be2_at, be4_at}
 use Rattle.field.specs.declared.Form.{Form}
@@ -16,7 +17,7 @@ use Rattle.field.specs.Said.{gives}
 use Rattle.field.specs.Judging.{fine, both, third_of, allowed, judge}
 use Rattle.field.specs.Layout.{tag_right, length_of, size_of, field_of}
 use Rattle.field.specs.Reading.{body_at, shape_at}
-use Rattle.field.specs.laws.Field.{both_true, unless-passed}
+use Rattle.field.specs.laws.Field.{clash, both_true, unless-passed}
 use Rattle.field.specs.laws.Standing.{stands, stands-whole, Stood, stood, stood-shape, field_at, body-number, body-first, body-second, body-fourth, body-fifth}
 use Rattle.right_field.specs.laws.Right.{untimed, right_at, Right, right, InTime, Timely, timed}
 use Rattle.admit.specs.declared.Progress.{Progress}
@@ -47,6 +48,24 @@ module _ (a b : Bool) {t : Bool} (e : t ≡ a) where
 -- the size of the right field that stands there, of one tag or of another; 0 where none does
 unfoldable pub size_by : ℕ → ℕ → List ℕ → ℕ → ℕ
 size_by a b s at = cond (right_at s at a) (size_of a) (cond (right_at s at b) (size_of b) 0)
+
+-- a size as the code hands it over: none where it is 0
+abbrev pub some_size : ℕ → Option ℕ
+some_size size = cond (eqb size 0) None (Some size)
+
+pub size-some : (n : ℕ) {size : ℕ} → Some size ≡ some_size n → (size ≡ n) × (size ≡ 0 → ⊥)
+size-some n {size} e = by-test (eqb n 0) refl e
+  where
+    by-test : (t : Bool) → eqb n 0 ≡ t → Some size ≡ cond t None (Some n) → (size ≡ n) × (size ≡ 0 → ⊥)
+    by-test true h z = clash cc
+    by-test false h z = let same : size ≡ n = cc in (same, λ none. eqb-false n 0 h (sym same ∙ none))
+
+pub size-not : (n : ℕ) → None ≡ some_size n → n ≡ 0
+size-not n e = by-test (eqb n 0) refl e
+  where
+    by-test : (t : Bool) → eqb n 0 ≡ t → None ≡ cond t None (Some n) → n ≡ 0
+    by-test true h z = eqb-true n 0 h
+    by-test false h z = clash cc
 
 -- which of them it is, as the code has it
 module _ (a b : ℕ) (s : List ℕ) (at : ℕ) {t : Bool} (e : t ≡ right_at s at a) where
@@ -130,6 +149,15 @@ module _ (s : List ℕ) {size : ℕ} (e : size ≡ size_by 1 6 s 0) (some : size
       by : OneOf 1 6 s 0 size → Opened s size p
       by (inl (r, z)) = rw (k, f, z) (record { track = on-next s 0 start (at-start s refl small) (stood-shape s 0 1 r.stands-there) (short-goes s r); first = refl })
       by (inr (r, z)) = rw (k, f, z) (record { track = on-next s 0 start (at-start s refl small) (stood-shape s 0 6 r.stands-there) (long-goes s r); first = refl })
+
+-- the same by the tag that stands there
+pub short-opened : (s : List ℕ) → length s ≤ 1048576 → {t : Bool} → t ≡ right_at s 0 1 → t ≡ true → {p : Progress} → p ≡ after_header start (get_or s 3 0) (be2_at s 4) Short → Opened s 6 p
+unfolding form_in
+short-opened s small e h k = opened s (size-first 1 6 s 0 e h) (λ none. omega arith) small refl k
+
+pub long-opened : (s : List ℕ) → length s ≤ 1048576 → {t : Bool} → t ≡ right_at s 0 1 → t ≡ false → {q : Bool} → q ≡ right_at s 0 6 → q ≡ true → {p : Progress} → p ≡ after_header start (get_or s 3 0) (be2_at s 4) (Long (get_or s 6 0)) → Opened s 7 p
+unfolding form_in
+long-opened s small e h k l z = opened s (size-second 1 6 s 0 e h k l) (λ none. omega arith) small refl z
 
 module _ (s : List ℕ) (at : ℕ) (p : Progress) (o : Opened s at p) {t : Bool} (e : t ≡ right_at s at 2) (h : t ≡ true) where
   close-right : Right s at 2

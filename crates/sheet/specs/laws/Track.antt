@@ -1,16 +1,17 @@
 -- Laws of judging a sheet field after field: what one field and its admission say of the judgement from a place on.
 --     OnTrack    judging from here on says what judging the whole sheet says
---     on-..      where a field stands
+--     on-..      where none stands, and where a field stands
 --     at-..      the same with the facts as they stand in the code: what a call ensures of its result, and the case that the result was found to be
 -- Assumes nothing.
-use Rattle.std.specs.Prelude.{ℕ, ◌<◌, ◌≤◌, ◌≡◌, List, length}
+use Rattle.std.specs.Prelude.{ℕ, ◌<◌, ◌≤◌, ◌≡◌, List, length, Result, Ok, Err}
 use Rattle.std.proofs.Common.{sym, ◌∙◌, ap, arith, le-leb}
 use Rattle.std.proofs.lemmas.Bool.{lt-leb}
 use Rattle.field.specs.declared.Field.{Field}
-use Rattle.field.specs.declared.Read.{Read}
-use Rattle.field.specs.declared.Read.TheVariants as R
-use Rattle.field.specs.Said.{gives, read_says}
+use Rattle.field.specs.declared.Fault.{Fault}
+use Rattle.field.specs.declared.Refusal.{Refusal}
+use Rattle.field.specs.Said.{gives, refuses, fault_number, read_says}
 use Rattle.field.specs.Reading.{shape_at}
+use Rattle.field.specs.laws.Field.{shape-refused}
 use Rattle.admit.specs.declared.Progress.{Progress}
 use Rattle.admit.specs.declared.Admitted.{Admitted}
 use Rattle.admit.specs.declared.Admitted.TheVariants as A
@@ -34,7 +35,11 @@ pub at-start : (s : List ℕ) {p : Progress} → p ≡ start → length s ≤ 10
 unfolding judge_sheet
 at-start s {p} e h = rw e (record { small = h; within = omega arith; counts = omega arith; same = simp (le-leb (length s) 1048576 h) })
 
--- ---- where a field stands
+-- ---- where none stands, and where a field stands
+
+pub on-refusal : (s : List ℕ) (at : ℕ) (p : Progress) → OnTrack s at p → {number place : ℕ} → shape_at s at ≡ refuses number place → refuses-at number place ≡ judge_sheet s
+unfolding judge_reads
+on-refusal s at p o {number} e = ap (refuses-at number) (sym (shape-refused s at _ _ e).1) ∙ (rw (reads-stop s at e) at o.same)
 
 module _ (s : List ℕ) (at : ℕ) (p : Progress) (o : OnTrack s at p) {f : Field} {next : ℕ} (shape : shape_at s at ≡ gives f next) where
   pub on_room : p.count < 1048576
@@ -60,21 +65,20 @@ module _ (s : List ℕ) (at : ℕ) (p : Progress) (o : OnTrack s at p) {f : Fiel
 
 -- ---- as the judge of any field finds it
 
-module _ (s : List ℕ) (at : ℕ) (p : Progress) (o : OnTrack s at p) {r : Read} (e : read_says r ≡ shape_at s at) where
-  pub at-refusal : {number place : ℕ} → r ≡ R.Refused number place → refuses-at number at ≡ judge_sheet s
-  unfolding judge_reads
-  at-refusal d = rw (reads-stop s at (read-stopped s at e d)) at o.same
+module _ (s : List ℕ) (at : ℕ) (p : Progress) (o : OnTrack s at p) {r : Result (Field × ℕ) Refusal} (e : read_says r ≡ shape_at s at) where
+  pub at-refusal : {refusal : Refusal} → r ≡ Err refusal → refuses-at (fault_number refusal.fault) refusal.at ≡ judge_sheet s
+  at-refusal d = on-refusal s at p o (read-stopped s at e d)
 
-  module _ {f : Field} {next : ℕ} (d : r ≡ R.Field f next) where
+  module _ {f : Field} {next : ℕ} (d : r ≡ Ok (f, next)) where
     pub at_room : p.count < 1048576
     at_room = on_room s at p o (read-gave s at e d)
 
-    module _ {t : Admitted} (k : admit_says t ≡ admit p f) where
-      pub at-stop : {number : ℕ} → t ≡ A.Refused number → refuses-at number at ≡ judge_sheet s
+    module _ {t : Result Admitted Fault} (k : admit_says t ≡ admit p f) where
+      pub at-stop : {fault : Fault} → t ≡ Err fault → refuses-at (fault_number fault) at ≡ judge_sheet s
       at-stop w = on-stop s at p o (read-gave s at e d) (sym k ∙ ap admit_says w)
 
-      pub at_last : {x : Verdict} → t ≡ A.Ended → x ≡ at_end (length s) next p → x ≡ judge_sheet s
+      pub at_last : {x : Verdict} → t ≡ Ok A.Ended → x ≡ at_end (length s) next p → x ≡ judge_sheet s
       at_last w z = on-last s at p o (read-gave s at e d) (sym k ∙ ap admit_says w) z
 
-      pub at_next : {q : Progress} → t ≡ A.Next q → OnTrack s next q
+      pub at_next : {q : Progress} → t ≡ Ok (A.Next q) → OnTrack s next q
       at_next w = on-next s at p o (read-gave s at e d) (sym k ∙ ap admit_says w)

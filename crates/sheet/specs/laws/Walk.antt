@@ -4,12 +4,11 @@
 --     walk-ind                                 induction along it, for what is proved of whole sheets
 --     less-read                                what falls with each turn of a loop over a sheet
 -- Assumes nothing.
-use Rattle.std.specs.Prelude.{ℕ, zero, suc, ◌-◌, ◌<◌, ◌≤◌, ◌≡◌, refl, List, [], ◌∷◌, length, get_or}
+use Rattle.std.specs.Prelude.{ℕ, zero, suc, ◌-◌, ◌<◌, ◌≤◌, ◌≡◌, refl, List, [], ◌∷◌, length, get_or, Result, Ok, Err}
 use Rattle.std.proofs.Common.{sym, ◌∙◌, ap, arith}
 use Rattle.field.specs.declared.Field.{Field}
-use Rattle.field.specs.declared.Read.{Read}
-use Rattle.field.specs.declared.Read.TheVariants as R
-use Rattle.field.specs.Said.{Said, gives, refuses, read_says}
+use Rattle.field.specs.declared.Refusal.{Refusal}
+use Rattle.field.specs.Said.{Said, gives, refuses, fault_number, read_says}
 use Rattle.field.specs.Reading.{head_number, shape_at}
 use Rattle.field.specs.laws.Field.{shape-inside, shape-not, head-short}
 use Rattle.sheet.specs.Fields.{behind, reads_from, reads_at, fields_in, fields_at}
@@ -71,17 +70,17 @@ walk-ind s P stop step at = within (suc (length s - at)) at (omega arith)
     within (suc k) at h = split k at (shape_at s at) refl (within k) h
 
 -- what a call of `shape_at` and the case it was found to be say together
-pub read-gave : (s : List ℕ) (at : ℕ) {r : Read} {f : Field} {next : ℕ} → read_says r ≡ shape_at s at → r ≡ R.Field f next → shape_at s at ≡ gives f next
+pub read-gave : (s : List ℕ) (at : ℕ) {r : Result (Field × ℕ) Refusal} {f : Field} {next : ℕ} → read_says r ≡ shape_at s at → r ≡ Ok (f, next) → shape_at s at ≡ gives f next
 read-gave s at e d = sym e ∙ ap read_says d
 
-pub read-stopped : (s : List ℕ) (at : ℕ) {r : Read} {number place : ℕ} → read_says r ≡ shape_at s at → r ≡ R.Refused number place → shape_at s at ≡ refuses number place
+pub read-stopped : (s : List ℕ) (at : ℕ) {r : Result (Field × ℕ) Refusal} {refusal : Refusal} → read_says r ≡ shape_at s at → r ≡ Err refusal → shape_at s at ≡ refuses (fault_number refusal.fault) refusal.at
 read-stopped s at e d = sym e ∙ ap read_says d
 
 -- the bytes that are left: the measure of every loop over a sheet, and fewer behind a field
 abbrev pub left : List ℕ → ℕ → ℕ
 left s at = length s - at
 
-pub less-read : (s : List ℕ) (at : ℕ) {r : Read} {f : Field} {next : ℕ} → read_says r ≡ shape_at s at → r ≡ R.Field f next → left s next < left s at
+pub less-read : (s : List ℕ) (at : ℕ) {r : Result (Field × ℕ) Refusal} {f : Field} {next : ℕ} → read_says r ≡ shape_at s at → r ≡ Ok (f, next) → left s next < left s at
 less-read s at e d = let g = shape-grows s at (read-gave s at e d) in omega arith
 
 -- at the sheet's end and past it nothing stands
