@@ -145,7 +145,8 @@ fn close_next(p: Progress, instrument: u8) -> bool
     previous_placed(p, instrument) && is_let(p, instrument)
 }
 
-// Behind the right previous closes that stand one after the other.
+// Behind the right previous closes that stand one after the other. A loop of its own: one for closes and records by a closure would have each step's
+// contract written out beside it, and be longer than both.
 fn past_closes(sheet: &[u8], from: Reached) -> Reached
     requires { Opened sheet.now from.at from.progress }
     ensures { Opened sheet.now result.at result.progress }
