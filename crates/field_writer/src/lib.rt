@@ -1,13 +1,13 @@
 // Writes one field into a lent buffer from a place onward: the part that starts at the place is lent on, and a refusal changes no byte.
-#![tactic(auto)]
+#![tactic(auto, unfolding(field::specs::Judging::unless, field::specs::Judging::also, field::specs::Said::settled, field::specs::Writing::write_number, field::specs::Writing::written, field::specs::Writing::buffer_after))]
 
 ghost use Rattle.std.specs.Prelude.{◌≡◌};
-ghost use Rattle.field.specs.Said.{written_says};
+ghost use Rattle.field.specs.Said.{found, written_says};
 ghost use Rattle.field.specs.Writing.{field_size, write_number, written, buffer_after};
 
-use field::judge::{also, by_itself, judge, unless};
+use field::judge::{by_itself, judge, require};
 use field::layout::{remaining, size_of, tag_of};
-use field::{Field, Written, number};
+use field::{Fault, Field, Refusal};
 use raw_writer::put_field;
 
 // How many bytes a field needs.
@@ -17,23 +17,19 @@ pub fn field_size(field: Field) -> usize
     size_of(tag_of(field))
 }
 
-// What writing a field at a place of a buffer earns: 6 to 11, then 16, or FINE.
-fn write_number(len: usize, at: usize, field: Field) -> u8
-    ensures { result ≡ write_number len at field }
+// What writing a field at a place of a buffer of a length earns: what its values earn, or 16 where there is no room for it.
+fn judge_writing(len: usize, at: usize, field: Field) -> Result<(), Fault>
+    ensures { found result ≡ write_number len at field }
 {
-    let fits = field_size(field) <= remaining(len, at);
-    let room = unless(fits, number::ROOM, number::FINE);
-    also(judge(by_itself(), field), room)
+    judge(by_itself(), field)?;
+    require(field_size(field) <= remaining(len, at), Fault::Room)
 }
 
 // Writes a field at a place, where its values are in their ranges and the buffer has room for it.
-pub fn write_field(buffer: &mut [u8], at: usize, field: Field) -> Written
+pub fn write_field(buffer: &mut [u8], at: usize, field: Field) -> Result<usize, Refusal>
     ensures { (written_says result ≡ written buffer.old at field) × (buffer.new ≡ buffer_after buffer.old at field) }
 {
-    let found = write_number(buffer.len(), at, field);
-    if found != number::FINE {
-        return Written::Refused(found, at);
-    }
+    judge_writing(buffer.len(), at, field).map_err(|fault| Refusal { fault, at })?;
     put_field(&mut buffer[at..], field);
-    Written::Next(at + field_size(field))
+    Ok(at + field_size(field))
 }
