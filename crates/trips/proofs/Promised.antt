@@ -7,6 +7,7 @@
 use Prim.Native.Nat.{ℕ, ◌+◌, ◌-◌, ◌≤◌}
 use mathlib.Core.Path.{◌≡◌, sym, ap, ◌∙◌}
 use mathlib.Core.List.{List, []}
+use Rattle.std.specs.Prelude.{Result, Ok, Err}
 use lib.ListN.{length, take, drop}
 use borrow.Fn.Kinds.{ended_of}
 use contract.Lifetimes.{Lfts}
@@ -15,12 +16,9 @@ use denote.MutBor.{MutBor}
 use denote.Triple.Clauses.{AtExit}
 use Rattle.wire.specs.Big.{Bytes}
 use Rattle.field.specs.declared.Field.{Field}
-use Rattle.field.specs.declared.Read.{Read}
-use Rattle.field.specs.declared.Read.TheVariants as R
-use Rattle.field.specs.declared.Written.{Written}
-use Rattle.field.specs.declared.Written.TheVariants as W
+use Rattle.field.specs.declared.Refusal.{Refusal}
 use Rattle.field.specs.Layout.{body_bytes}
-use Rattle.field.specs.Said.{gives, read_says, written_says}
+use Rattle.field.specs.Said.{gives, fault_number, read_says, written_says}
 use Rattle.field.specs.laws.Said.{read-once, written_once}
 use Rattle.field.specs.Reading.{read_field, body_of}
 use Rattle.field.specs.Writing.{field_size, written, over, buffer_after}
@@ -35,7 +33,7 @@ use Rattle.trips.specs.Held.{Counted}
 use Rattle.trips.specs.laws.Around as around
 
 -- `write_field`, lent a buffer that holds b, may answer x and leave the bytes `after`
-pub record Writes (b : List ℕ) (at : ℕ) (f : Field) (x : Written) (after : List ℕ) : Type 0 where
+pub record Writes (b : List ℕ) (at : ℕ) (f : Field) (x : Result ℕ Refusal) (after : List ℕ) : Type 0 where
   pub κs : Lfts 1
   pub buffer : MutBor (List ℕ)
   pub exit : AtExit (ended_of 1 write-fieldK.ps write-fieldK.r) κs
@@ -44,7 +42,7 @@ pub record Writes (b : List ℕ) (at : ℕ) (f : Field) (x : Written) (after : L
   pub leaves : exit.0.now ≡ after
 
 -- `read_field`, lent a sheet that holds s, may answer x
-pub record Reads (s : List ℕ) (at : ℕ) (x : Read) : Type 0 where
+pub record Reads (s : List ℕ) (at : ℕ) (x : Result (Field × ℕ) Refusal) : Type 0 where
   pub κs : Lfts 1
   pub sheet : Bor (List ℕ)
   pub exit : AtExit (ended_of 1 read-fieldK.ps read-fieldK.r) κs
@@ -64,12 +62,12 @@ pub record Hands (s : List ℕ) (at : ℕ) (body : List ℕ) : Type 0 where
 -- ---- what the contracts say, of the bytes that were lent
 
 -- the answer and the bytes left are the definition's
-wrote : {b after : List ℕ} {at : ℕ} {f : Field} {x : Written} → Writes b at f x after → (written_says x ≡ written b at f) × (after ≡ buffer_after b at f)
+wrote : {b after : List ℕ} {at : ℕ} {f : Field} {x : Result ℕ Refusal} → Writes b at f x after → (written_says x ≡ written b at f) × (after ≡ buffer_after b at f)
 wrote {b} {after} {at} {f} w =
     (w.permits.0 ∙ ap (λ (l : List ℕ). written l at f) w.holds, sym w.leaves ∙ w.permits.1 ∙ ap (λ (l : List ℕ). buffer_after l at f) w.holds)
 
 -- the answer is the definition's
-read : {s : List ℕ} {at : ℕ} {x : Read} → Reads s at x → read_says x ≡ read_field s at
+read : {s : List ℕ} {at : ℕ} {x : Result (Field × ℕ) Refusal} → Reads s at x → read_says x ≡ read_field s at
 read {s} {at} r = r.permits ∙ ap (λ (l : List ℕ). read_field l at) r.holds
 
 -- the part's bytes are the definition's
@@ -79,13 +77,13 @@ handed {s} {body} {at} r = sym r.is ∙ r.permits ∙ ap (λ (l : List ℕ). bod
 -- ---- written, then read
 
 -- where `write_field` said yes, `read_field` gives the same field and the same place
-pub written_read : {b after : List ℕ} {at next : ℕ} {f : Field} {y : Read} → Counted f → Writes b at f (W.Next next) after → Reads after at y → y ≡ R.Field f next
+pub written_read : {b after : List ℕ} {at next : ℕ} {f : Field} {y : Result (Field × ℕ) Refusal} → Counted f → Writes b at f (Ok next) after → Reads after at y → y ≡ Ok (f, next)
 written_read {b} {after} {at} {next} {f} c w r =
     let ok = written-ok b at f next (sym (wrote w).0) in
     read-once (read r) (sym (ap (λ (l : List ℕ). read_field l at) (wrote w).1 ∙ around.written_read b at f c ok.none ∙ ap (gives f) ok.behind))
 
 -- and `field_body` hands back the field's body
-pub written-body : {b after body : List ℕ} {at next : ℕ} {f : Field} → Counted f → Writes b at f (W.Next next) after → Hands after at body → body ≡ body_bytes f
+pub written-body : {b after body : List ℕ} {at next : ℕ} {f : Field} → Counted f → Writes b at f (Ok next) after → Hands after at body → body ≡ body_bytes f
 written-body {b} {after} {body} {at} {next} {f} c w h =
     let ok = written-ok b at f next (sym (wrote w).0) in
     handed h ∙ ap (λ (l : List ℕ). body_of l at) (wrote w).1 ∙ around.written-body b at f c ok.none
@@ -93,17 +91,17 @@ written-body {b} {after} {body} {at} {next} {f} c w h =
 -- ---- read, then written
 
 -- where the definition says yes, so does `write_field`
-outcome : {b after : List ℕ} {p next : ℕ} {f : Field} {y : Written} → Writes b p f y after → written b p f ≡ gives tt next → y ≡ W.Next next
+outcome : {b after : List ℕ} {p next : ℕ} {f : Field} {y : Result ℕ Refusal} → Writes b p f y after → written b p f ≡ gives tt next → y ≡ Ok next
 outcome w e = written_once (wrote w).0 (sym e)
 
 -- where `read_field` gave a field, `write_field` says yes to it at the same place of the same bytes, and leaves them as they were
-pub read-written : {s after : List ℕ} {at next : ℕ} {f : Field} {y : Written} → Bytes s → Reads s at (R.Field f next) → Writes s at f y after → (y ≡ W.Next next) × (after ≡ s)
+pub read-written : {s after : List ℕ} {at next : ℕ} {f : Field} {y : Result ℕ Refusal} → Bytes s → Reads s at (Ok (f, next)) → Writes s at f y after → (y ≡ Ok next) × (after ≡ s)
 read-written {s} {after} {at} {next} {f} b r w =
     let again = around.read-written s at f next b (sym (read r)) in
     (outcome w again.written-here, (wrote w).1 ∙ again.bytes-here)
 
 -- and at any place of any buffer that has room, where it puts the bytes that stood in the sheet
-pub read-written-any : {s c after : List ℕ} {at next p : ℕ} {f : Field} {y : Written} → Bytes s → Reads s at (R.Field f next) → p + field_size f ≤ length c → Writes c p f y after → (y ≡ W.Next (p + field_size f)) × (after ≡ over c p (take (next - at) (drop at s)))
+pub read-written-any : {s c after : List ℕ} {at next p : ℕ} {f : Field} {y : Result ℕ Refusal} → Bytes s → Reads s at (Ok (f, next)) → p + field_size f ≤ length c → Writes c p f y after → (y ≡ Ok (p + field_size f)) × (after ≡ over c p (take (next - at) (drop at s)))
 read-written-any {s} {c} {after} {at} {next} {p} {f} b r room w =
     let again = around.read-written s at f next b (sym (read r)) in
     (outcome w (again.written-any c p room), (wrote w).1 ∙ again.bytes-any c p room)
@@ -111,9 +109,9 @@ read-written-any {s} {c} {after} {at} {next} {p} {f} b r room w =
 -- ---- the part that is handed back
 
 -- where `read_field` refuses, `field_body` hands back an empty part
-pub refused-empty : {s body : List ℕ} {at number place : ℕ} → Reads s at (R.Refused number place) → Hands s at body → body ≡ []
-refused-empty {s} {body} {at} {number} {place} r h = handed h ∙ body-none s at number place (sym (read r))
+pub refused-empty : {s body : List ℕ} {at : ℕ} {refusal : Refusal} → Reads s at (Err refusal) → Hands s at body → body ≡ []
+refused-empty {s} {body} {at} {refusal} r h = handed h ∙ body-none s at (fault_number refusal.fault) refusal.at (sym (read r))
 
 -- and nowhere else: where it gives a field, the part has bytes
-pub given-some : {s body : List ℕ} {at next : ℕ} {f : Field} → Reads s at (R.Field f next) → Hands s at body → 1 ≤ length body
+pub given-some : {s body : List ℕ} {at next : ℕ} {f : Field} → Reads s at (Ok (f, next)) → Hands s at body → 1 ≤ length body
 given-some {s} {body} {at} {next} {f} r h = rw (handed h) (around.body-some s at f next (sym (read r)))
