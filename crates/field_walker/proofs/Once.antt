@@ -5,16 +5,16 @@ use Rattle.field.specs.laws.Said.{read-once}
 use Rattle.field_walker.specs.laws.Said.{turn-once}
 use Rattle.field_walker.proofs.place_after.Reads as place_after
 use Rattle.field_walker.proofs.place_after.Kinds as place-afterK
-use Rattle.field_walker.proofs.new.Reads as new
-use Rattle.field_walker.proofs.new.Kinds as newK
-use Rattle.field_walker.proofs.place.Reads as place
-use Rattle.field_walker.proofs.place.Kinds as placeK
-use Rattle.field_walker.proofs.look.Reads as look
-use Rattle.field_walker.proofs.look.Kinds as lookK
-use Rattle.field_walker.proofs.body.Reads as body
-use Rattle.field_walker.proofs.body.Kinds as bodyK
-use Rattle.field_walker.proofs.step.Reads as step
-use Rattle.field_walker.proofs.step.Kinds as stepK
+use Rattle.field_walker.proofs.Walker.new.Reads as new
+use Rattle.field_walker.proofs.Walker.new.Kinds as newK
+use Rattle.field_walker.proofs.Walker.place.Reads as place
+use Rattle.field_walker.proofs.Walker.place.Kinds as placeK
+use Rattle.field_walker.proofs.Walker.look.Reads as look
+use Rattle.field_walker.proofs.Walker.look.Kinds as lookK
+use Rattle.field_walker.proofs.Walker.body.Reads as body
+use Rattle.field_walker.proofs.Walker.body.Kinds as bodyK
+use Rattle.field_walker.proofs.Walker.step.Reads as step
+use Rattle.field_walker.proofs.Walker.step.Kinds as stepK
 use Rattle.field_walker.proofs.turn_at.Reads as turn_at
 use Rattle.field_walker.proofs.turn_at.Kinds as turn-atK
 
