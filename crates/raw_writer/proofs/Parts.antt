@@ -1,7 +1,7 @@
 -- Bytes put into the part of a buffer that starts at a place: what the buffer holds then. `put_mid a m xs ys` is the list xs with ys in place
 -- of its m entries from a on, as the caller of a writer finds it. Assumes nothing.
 use Prim.Native.Nat.{ℕ, ◌+◌, ◌-◌, ◌≤◌}
-use mathlib.Core.Path.{◌≡◌, refl, sym, ap, ◌∙◌}
+use mathlib.Core.Path.{◌≡◌, sym, ap, ◌∙◌}
 use mathlib.Core.List.{List, [], ◌++◌, append_assoc, append-nil}
 use native.Mathlib.Nat.{le_refl}
 use native.Mathlib.Omega.{arith}
@@ -10,10 +10,6 @@ use lib.Seq.{take_all, take_at, drop_at, drop-drop}
 use borrow.Rule.Slice.PartMut.{put_mid}
 use Rattle.wire.specs.Big.{put}
 use Rattle.wire.specs.laws.Trips.{put-fits}
-use Rattle.field.specs.declared.Form.{Form}
-use Rattle.field.specs.declared.Form.TheVariants.{Short, Long}
-use Rattle.field.specs.declared.Field.{Field}
-use Rattle.field.specs.Layout.{length_of, form_tag, tag_of, form_bytes, body_bytes}
 use Rattle.field.specs.Writing.{over}
 
 -- the part from a on, with bytes put at its start
@@ -35,23 +31,3 @@ put-behind p bytes xs l ys a ep h el e =
     let both : length (p ++ bytes) ≡ a + length bytes = length-append p bytes ∙ ap (λ (n : ℕ). n + length bytes) ep in
     let placed : over l a bytes ≡ (p ++ bytes) ++ drop (a + length bytes) xs = simp (front, ← drop-drop (length bytes) a l, back, drop-drop, append_assoc) in
     put-part bytes l ys a (omega arith) e ∙ placed ∙ sym (put-fits (p ++ bytes) xs (omega arith) ∙ ap (λ (n : ℕ). (p ++ bytes) ++ drop n xs) both)
-
--- no bytes put change nothing
-pub put-none : (xs : List ℕ) → xs ≡ put [] xs
-put-none xs = sym (put-fits [] xs (omega arith))
-
--- a header's body by its form
-pub form-room : (form : Form) → length_of (form_tag form) ≡ 3 + length (form_bytes form)
-form-room Short = refl
-form-room (Long third) = refl
-
--- in an arm the form f is known to be g
-pub form-known : {f g : Form} {l : List ℕ} (xs : List ℕ) → f ≡ g → l ≡ put (form_bytes g) xs → l ≡ put (form_bytes f) xs
-form-known xs e h = rw e h
-
--- in an arm the field f is known to be g: g's body has the room that f's has, and putting g's bytes is putting f's
-pub room-known : {f g : Field} (n : ℕ) → f ≡ g → length_of (tag_of f) ≤ n → length_of (tag_of g) ≤ n
-room-known n e h = rw e at h
-
-pub put-known : {f g : Field} {l : List ℕ} (xs : List ℕ) → f ≡ g → l ≡ put (body_bytes g) xs → l ≡ put (body_bytes f) xs
-put-known xs e h = rw e h
