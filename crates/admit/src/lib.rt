@@ -24,7 +24,7 @@ pub struct Progress {
     pub count: u32,
 }
 
-// A field that may come next, with what is kept behind it, or the right end field.
+// A field that may come next, with what is kept behind it, or the right end field, which is no absence of one.
 #[derive(Clone, Copy)]
 pub enum Admitted {
     Next(Progress),

@@ -36,7 +36,7 @@ pub fn tag_right(tag: u8) -> bool
 pub fn length_of(tag: u8) -> u16
     ensures { result ≡ length_of tag }
 {
-    if tag <= 6 { LENGTHS[tag as usize] } else { 0 }
+    LENGTHS.get(tag as usize).copied().unwrap_or(0)
 }
 
 // How many bytes a tag's head and body are.
