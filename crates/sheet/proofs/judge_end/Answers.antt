@@ -1,6 +1,6 @@
 -- `sheet::judge_end` meets its contract. Assumes nothing.
 use borrow.Author.Rules.{rules}
-use Rattle.sheet.specs.laws.Past.{end-inside, end-room, end-next}
+use Rattle.sheet.specs.laws.Past.{end-inside, end-next}
 use Rattle.sheet.proofs.judge_end.Goals as goal
 
 pub number_behind-count-requires : goal.number_behind-count-requires

@@ -1,6 +1,5 @@
 -- No two judgements say the same. Assumes nothing.
 use Rattle.std.specs.Prelude.{◌≡◌, refl, Result, Ok, Err}
-use Rattle.std.proofs.Common.{ap}
 use Rattle.promise.specs.laws.Once.{through}
 use Rattle.field.specs.declared.Refusal.{Refusal}
 use Rattle.field.specs.laws.Said.{fault_of, fault_back}
