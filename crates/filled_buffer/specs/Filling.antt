@@ -1,9 +1,9 @@
 -- SHEET 9, TAPE 5 and 6: bytes that are made, the limit of a sheet, and the lent buffer.
 use Rattle.std.specs.Prelude.{ℕ, cond, List, leb, length}
 use Rattle.text.specs.Over.{over}
+use Rattle.field.specs.Said.{Said, gives, refuses}
 use Rattle.sheet.specs.declared.Day.{Day}
 use Rattle.sheet.specs.Judgement.{Verdict, accepts, refuses-at}
-use Rattle.filled_buffer.specs.declared.Filled.{Filled}
 
 -- bytes; or no, with a number of the table and a place
 pub data Made : Type 0 where
@@ -29,8 +29,8 @@ abbrev pub buffer_with : List ℕ → Made → List ℕ
 buffer_with b (made s) = over b 0 s
 buffer_with b (refused number place) = b
 
--- ---- what each answer of the code says
+-- ---- what the answer says: the place behind what was put, which starts at 0; or the refusal
 
-abbrev pub filled : Made → Filled
-filled (made s) = Filled.Whole (length s)
-filled (refused number place) = Filled.Refused number place
+abbrev pub filled : Made → Said (Unit {0})
+filled (made s) = gives tt (length s)
+filled (refused number place) = refuses number place

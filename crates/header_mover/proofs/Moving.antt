@@ -3,7 +3,7 @@
 --     moved-is       the moved sheet's bytes;  moved-long    and how many they are
 --     move-..        what is answered, and what stands in the buffer, in each case
 -- Assumes nothing.
-use Rattle.std.specs.Prelude.{ℕ, ◌+◌, ◌-◌, ◌≤◌, Bool, true, false, cond, ◌≡◌, refl, leb, eqb, length, take, drop}
+use Rattle.std.specs.Prelude.{ℕ, ◌+◌, ◌-◌, ◌≤◌, Bool, true, false, cond, ◌≡◌, refl, leb, eqb, length, take, drop, Result, Ok, Err}
 use Rattle.std.proofs.Math.Path.{sym, ap}
 use Rattle.std.proofs.Common.{ap₂, ◌∙◌, arith, eq-eqb, ne_eqb, le-leb, leb-true, length-append, length-drop, take_all, drop_at}
 use mathlib.Core.List.{List, [], ◌∷◌, ◌++◌, map}
@@ -15,19 +15,20 @@ use Rattle.field.specs.declared.Form.{Form}
 use Rattle.field.specs.declared.Form.TheVariants.{Short, Long}
 use Rattle.field.specs.declared.Field.{Field}
 use Rattle.field.specs.declared.Field.TheVariants.{Header, PreviousClose, Trade, Quote, End}
-use Rattle.field.specs.Judging.{fine, unless, also, both, third_of}
-use Rattle.field.specs.Layout.{form_tag, tag_of, field_bytes}
+use Rattle.field.specs.Judging.{fine, unless, also}
+use Rattle.field.specs.Layout.{tag_of, field_bytes}
 use Rattle.field.specs.Writing.{field_size}
 use Rattle.field.specs.laws.Field.{field-length}
 use Rattle.admit.specs.laws.Admitting.{Later}
 use Rattle.sheet.specs.declared.Day.{Day}
-use Rattle.sheet.specs.declared.Judged.{Judged}
-use Rattle.sheet.specs.declared.Judged.TheVariants as J
 use Rattle.sheet.specs.Fields.{fields_of, encode, Each}
 use Rattle.sheet.specs.Judgement.{judge_sheet, judged_says}
 use Rattle.sheet.specs.laws.Accepted.{accepted-header, accepted-small}
 use Rattle.sheet.specs.laws.Encoding.{accepted-encodes}
-use Rattle.filled_buffer.specs.declared.Filled.{Filled}
+use Rattle.field.specs.declared.Fault.{Fault}
+use Rattle.field.specs.declared.Refusal.{Refusal}
+use Rattle.field.specs.Said.{gives, refuses, fault_number, found, written_says}
+use Rattle.field.specs.laws.Said.{fault-not-fine}
 use Rattle.filled_buffer.specs.Filling.{made, refused, within_limit, in_room}
 use Rattle.filled_buffer.specs.laws.Filling.{Answers, answers}
 use Rattle.header_mover.specs.Moving.{with_form, moved_bytes, movable, moved_of}
@@ -133,16 +134,6 @@ module _ (s b : List ℕ) (day : Day) (wanted : Form) (f : Fitting s b day wante
 
 -- ---- the answers
 
--- the two tests of a form
-module _ (wanted form : Form) {a b : ℕ} (e : a ≡ form_tag form) (f : b ≡ form_tag wanted) where
-  pub tag_same : a ≡ b → false ≡ movable wanted form
-  unfolding both
-  tag_same h = simp (eq-eqb (form_tag form) (form_tag wanted) (sym e ∙ h ∙ f))
-
-  pub tag-other : (a ≡ b → ⊥) → {x y : ℕ} → x ≡ third_of form → y ≡ third_of wanted → eqb x y ≡ movable wanted form
-  unfolding both
-  tag-other h g k = simp (ne_eqb (form_tag form) (form_tag wanted) (λ z. h (e ∙ z ∙ sym f)), g, k)
-
 -- made where no number is found, and else refused with it
 move-settled : (can : Bool) (t : List ℕ) (room : ℕ) → in_room room (cond can (within_limit t) (refused 19 0)) ≡ cond (eqb (move_number can (length t) room) fine) (made t) (refused (move_number can (length t) room) 0)
 unfolding in_room unless also
@@ -168,28 +159,32 @@ move-fits can len room e = by can (leb len 1048576) (leb len room) refl e
     by true true false g h = absurd (omega (arith, h))
     by true true true g h = leb-true len room g
 
--- of an accepted sheet, by the sizes of both headers and the number that was found
-module _ (s b : List ℕ) (day : Day) (wanted : Form) (a : Accepted s day) {from to found : ℕ} {can : Bool} (e : to ≡ header_size wanted) (g : from ≡ header_size day.form) (h : can ≡ movable wanted day.form) (q : found ≡ move_number can (to + (length s - from)) (length b)) where
+-- of an accepted sheet, by the sizes of both headers and what was found
+module _ (s b : List ℕ) (day : Day) (wanted : Form) (a : Accepted s day) {from to : ℕ} {can : Bool} (e : to ≡ header_size wanted) (g : from ≡ header_size day.form) (h : can ≡ movable wanted day.form)
+    (answer : Result (Unit {0}) Fault) (q : found answer ≡ move_number can (to + (length s - from)) (length b)) where
   size : to + (length s - from) ≡ length (moved_bytes wanted (fields_of s))
   size = ap₂ (λ (n m : ℕ). n + (length s - m)) e g ∙ sym (moved-long s day a wanted)
 
-  found-is : found ≡ move_number (movable wanted day.form) (length (moved_bytes wanted (fields_of s))) (length b)
+  found-is : found answer ≡ move_number (movable wanted day.form) (length (moved_bytes wanted (fields_of s))) (length b)
   found-is = q ∙ ap₂ (λ (t : Bool) (n : ℕ). move_number t n (length b)) h size
 
-  settled : in_room (length b) (moved_of wanted (fields_of s) day) ≡ cond (eqb found fine) (made (moved_bytes wanted (fields_of s))) (refused found 0)
+  settled : in_room (length b) (moved_of wanted (fields_of s) day) ≡ cond (eqb (found answer) fine) (made (moved_bytes wanted (fields_of s))) (refused (found answer) 0)
   settled =
       move-settled (movable wanted day.form) (moved_bytes wanted (fields_of s)) (length b)
       ∙ ap (λ (n : ℕ). cond (eqb n fine) (made (moved_bytes wanted (fields_of s))) (refused n 0)) (sym found-is)
 
-  pub move-refused : (found ≡ 0 → ⊥) → Answers (in_room (length b) (moved_of wanted (fields_of s) day)) b (Filled.Refused found 0) b
-  move-refused some = answers b b _ _ (refused found 0) (settled ∙ simp (ne_eqb found 0 some)) refl refl
+  -- where a fault was found
+  pub move-refused : (r : Result ℕ Refusal) → (fault : Fault) × (answer ≡ Err fault) × (written_says r ≡ refuses (fault_number fault) 0) → Answers (in_room (length b) (moved_of wanted (fields_of s) day)) b r b
+  move-refused r (fault, d, told) =
+      let some : eqb (found answer) fine ≡ false = ap (λ (x : Result (Unit {0}) Fault). eqb (found x) fine) d ∙ ne_eqb (fault_number fault) 0 (fault-not-fine fault) in
+      answers b b r _ (refused (fault_number fault) 0) (settled ∙ simp some (ap (λ (x : Result (Unit {0}) Fault). refused (found x) 0) d)) told refl
 
-  pub move-fitting : found ≡ 0 → Fitting s b day wanted
+  pub move-fitting : found answer ≡ 0 → Fitting s b day wanted
   move-fitting none = record { accepted = a; room = move-fits (movable wanted day.form) (length (moved_bytes wanted (fields_of s))) (length b) (sym found-is ∙ none) }
 
-  pub move-whole : found ≡ 0 → {b' : List ℕ} → b' ≡ over b 0 (moved_bytes wanted (fields_of s)) → Answers (in_room (length b) (moved_of wanted (fields_of s) day)) b (Filled.Whole (to + (length s - from))) b'
-  move-whole none {b'} is = answers b b' _ _ (made (moved_bytes wanted (fields_of s))) (settled ∙ simp (eq-eqb found 0 none)) (ap Filled.Whole size) is
+  pub move-whole : found answer ≡ 0 → {b' : List ℕ} → b' ≡ over b 0 (moved_bytes wanted (fields_of s)) → Answers (in_room (length b) (moved_of wanted (fields_of s) day)) b (Ok (to + (length s - from))) b'
+  move-whole none {b'} is = answers b b' (Ok (to + (length s - from))) _ (made (moved_bytes wanted (fields_of s))) (settled ∙ simp (eq-eqb (found answer) 0 none)) (ap (gives tt) size) is
 
 -- a sheet that judging accepted
-pub judged-accepted : (s : List ℕ) {j : Judged} → judged_says j ≡ judge_sheet s → Bytes s → {day : Day} → j ≡ J.Accepted day → Accepted s day
+pub judged-accepted : (s : List ℕ) {j : Result Day Refusal} → judged_says j ≡ judge_sheet s → Bytes s → {day : Day} → j ≡ Ok day → Accepted s day
 judged-accepted s q bytes d = record { bytes = bytes; judged = sym q ∙ ap judged_says d }

@@ -1,30 +1,27 @@
 // A sheet with the other header, at the start of a lent buffer: an old sheet gets the long header, and a new one the short header again. The sheet is
 // judged and the moved one measured before a byte is written, so a refusal changes none.
-#![tactic(auto)]
+#![tactic(auto, unfolding(field::specs::Judging::both, field::specs::Judging::unless, field::specs::Judging::also))]
 
 ghost use Rattle.std.specs.Prelude.{◌≡◌, ◌+◌, ◌≤◌, length};
 ghost use Rattle.text.specs.Over.{over, put_buffer};
 ghost use Rattle.field.specs.declared.Field.TheVariants as F;
+ghost use Rattle.field.specs.Said.{found, written_says};
 ghost use Rattle.sheet.specs.Fields.{fields_of};
 ghost use Rattle.filled_buffer.specs.Filling.{in_room, buffer_with, filled};
 ghost use Rattle.header_mover.specs.Moving.{moved_bytes, movable, moved_of, moved, to_new, to_old};
 ghost use Rattle.header_mover.specs.laws.Moving.{header_size, move_number, Accepted, Fitting};
 
-use field::judge::{also, third_of, unless};
+use field::judge::{require, third_of};
 use field::layout::{form_tag, size_of};
-use field::{Field, Form, number};
-use filled_buffer::Filled;
+use field::{Fault, Field, Form, Refusal};
 use raw_writer::put_field;
-use sheet::{Day, Judged, judge_sheet};
+use sheet::{Day, judge_sheet};
 
 // A header of this form can get the wanted one: it has the other tag, and the wanted one says the same of 3M.
 fn is_movable(wanted: Form, form: Form) -> bool
     ensures { result ≡ movable wanted form }
 {
-    if form_tag(form) == form_tag(wanted) {
-        return false;
-    }
-    third_of(form) == third_of(wanted)
+    form_tag(form) != form_tag(wanted) && third_of(form) == third_of(wanted)
 }
 
 // How many bytes a header of a form has.
@@ -35,13 +32,12 @@ fn header_size(form: Form) -> usize
 }
 
 // What refuses the move of an accepted sheet: its form, then the moved sheet's length, then the room.
-fn move_number(movable: bool, len: usize, room: usize) -> u8
-    ensures { result ≡ move_number movable len room }
+fn judge_move(movable: bool, len: usize, room: usize) -> Result<(), Fault>
+    ensures { found result ≡ move_number movable len room }
 {
-    let form = unless(movable, number::FORM, number::FINE);
-    let limit = unless(len <= 1_048_576, number::LONG, number::FINE);
-    let fits = unless(len <= room, number::ROOM, number::FINE);
-    also(form, also(limit, fits))
+    require(movable, Fault::Form)?;
+    require(len <= 1_048_576, Fault::Long)?;
+    require(len <= room, Fault::Room)
 }
 
 // A header of a form, which goes by value: the byte that a short one lacks is then a zero and not what the stack had.
@@ -77,40 +73,34 @@ fn put_moved(sheet: &[u8], out: &mut [u8], day: Day, wanted: Form)
 }
 
 // An accepted sheet with the wanted header; or 19, 1 or 16 at 0.
-fn move_accepted(sheet: &[u8], out: &mut [u8], day: Day, wanted: Form) -> Filled
+fn move_accepted(sheet: &[u8], out: &mut [u8], day: Day, wanted: Form) -> Result<usize, Refusal>
     requires { Accepted sheet.now day }
-    ensures { (result ≡ filled (in_room (length out.old) (moved_of wanted (fields_of sheet.now) day))) × (out.new ≡ buffer_with out.old (in_room (length out.old) (moved_of wanted (fields_of sheet.now) day))) }
+    ensures { (written_says result ≡ filled (in_room (length out.old) (moved_of wanted (fields_of sheet.now) day))) × (out.new ≡ buffer_with out.old (in_room (length out.old) (moved_of wanted (fields_of sheet.now) day))) }
 {
     let form = day.form;
     let len = header_size(wanted) + (sheet.len() - header_size(form));
-    let found = move_number(is_movable(wanted, form), len, out.len());
-    if found != number::FINE {
-        return Filled::Refused(found, 0);
-    }
+    judge_move(is_movable(wanted, form), len, out.len()).map_err(|fault| Refusal { fault, at: 0 })?;
     put_moved(sheet, out, day, wanted);
-    Filled::Whole(len)
+    Ok(len)
 }
 
-// The sheet with a header of the wanted form, by its length; or the number of a refusal, with the sheet's byte where it is the sheet's own.
-fn move_to(sheet: &[u8], out: &mut [u8], wanted: Form) -> Filled
-    ensures { (result ≡ filled (moved wanted (length out.old) sheet.now)) × (out.new ≡ buffer_with out.old (moved wanted (length out.old) sheet.now)) }
+// The sheet with a header of the wanted form, by its length; or the refusal, at the sheet's byte where it is the sheet's own.
+fn move_to(sheet: &[u8], out: &mut [u8], wanted: Form) -> Result<usize, Refusal>
+    ensures { (written_says result ≡ filled (moved wanted (length out.old) sheet.now)) × (out.new ≡ buffer_with out.old (moved wanted (length out.old) sheet.now)) }
 {
-    match judge_sheet(sheet) {
-        Judged::Accepted(day) => move_accepted(sheet, out, day, wanted),
-        Judged::Refused(found, byte) => Filled::Refused(found, byte),
-    }
+    move_accepted(sheet, out, judge_sheet(sheet)?, wanted)
 }
 
 // An old sheet with the new header at the start of the buffer.
-pub fn to_new_header(sheet: &[u8], out: &mut [u8]) -> Filled
-    ensures { (result ≡ filled (to_new (length out.old) sheet.now)) × (out.new ≡ buffer_with out.old (to_new (length out.old) sheet.now)) }
+pub fn to_new_header(sheet: &[u8], out: &mut [u8]) -> Result<usize, Refusal>
+    ensures { (written_says result ≡ filled (to_new (length out.old) sheet.now)) × (out.new ≡ buffer_with out.old (to_new (length out.old) sheet.now)) }
 {
     move_to(sheet, out, Form::Long(0))
 }
 
 // A new sheet with the old header at the start of the buffer.
-pub fn to_old_header(sheet: &[u8], out: &mut [u8]) -> Filled
-    ensures { (result ≡ filled (to_old (length out.old) sheet.now)) × (out.new ≡ buffer_with out.old (to_old (length out.old) sheet.now)) }
+pub fn to_old_header(sheet: &[u8], out: &mut [u8]) -> Result<usize, Refusal>
+    ensures { (written_says result ≡ filled (to_old (length out.old) sheet.now)) × (out.new ≡ buffer_with out.old (to_old (length out.old) sheet.now)) }
 {
     move_to(sheet, out, Form::Short)
 }

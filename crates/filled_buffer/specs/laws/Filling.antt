@@ -5,14 +5,13 @@
 --     room-made, made-room    what is put was made, and what was made is put where there is room
 --     of-sheet-some, limit-some, room-some    a refusal has another number than 0
 -- Assumes nothing.
-use Rattle.std.specs.Prelude.{ℕ, ◌≤◌, ◌<◌, Bool, true, false, cond, ◌≡◌, List, leb, length}
+use Rattle.std.specs.Prelude.{ℕ, ◌≤◌, ◌<◌, Bool, true, false, cond, ◌≡◌, List, leb, length, Result, Ok, Err}
 use Rattle.std.proofs.Math.Path.{refl, ap, subst}
 use Rattle.std.proofs.Common.{sym, ◌∙◌, arith, le-leb, leb-true}
 use Rattle.sheet.specs.declared.Day.{Day}
-use Rattle.sheet.specs.declared.Judged.{Judged}
-use Rattle.sheet.specs.declared.Judged.TheVariants as J
 use Rattle.sheet.specs.Judgement.{Verdict, accepts, refuses-at, judged_says}
-use Rattle.filled_buffer.specs.declared.Filled.{Filled}
+use Rattle.field.specs.declared.Refusal.{Refusal}
+use Rattle.field.specs.Said.{refuses, fault_number, written_says}
 use Rattle.filled_buffer.specs.Filling.{Made, made, refused, of_sheet, within_limit, in_room, buffer_with, filled}
 
 -- bytes that are made are no refusal
@@ -20,21 +19,21 @@ no_bytes : {A : Type 0} {s : List ℕ} {number place : ℕ} → made s ≡ refus
 no_bytes e = let z : ◌≡◌ {A = ℕ} 0 1 = cc in absurd (omega arith)
 
 -- the answer, and the buffer behind the call
-abbrev pub Answers : Made → List ℕ → Filled → List ℕ → Type 0
-Answers m b r b' = (r ≡ filled m) × (b' ≡ buffer_with b m)
+abbrev pub Answers : Made → List ℕ → Result ℕ Refusal → List ℕ → Type 0
+Answers m b r b' = (written_says r ≡ filled m) × (b' ≡ buffer_with b m)
 
-pub answers : (b b' : List ℕ) (r : Filled) (m n : Made) → m ≡ n → r ≡ filled n → b' ≡ buffer_with b n → Answers m b r b'
+pub answers : (b b' : List ℕ) (r : Result ℕ Refusal) (m n : Made) → m ≡ n → written_says r ≡ filled n → b' ≡ buffer_with b n → Answers m b r b'
 answers b b' r m n e f g = (f ∙ ap filled (sym e), g ∙ ap (buffer_with b) (sym e))
 
 -- of a sheet, as the code finds it judged
-module _ (b : List ℕ) (make : Day → Made) {v : Verdict} {j : Judged} (q : judged_says j ≡ v) where
-  pub judged-made : {day : Day} → j ≡ J.Accepted day → {r : Filled} {b' : List ℕ} → Answers (in_room (length b) (make day)) b r b' → Answers (in_room (length b) (of_sheet v make)) b r b'
+module _ (b : List ℕ) (make : Day → Made) {v : Verdict} {j : Result Day Refusal} (q : judged_says j ≡ v) where
+  pub judged-made : {day : Day} → j ≡ Ok day → (r : Result ℕ Refusal) {b' : List ℕ} → Answers (in_room (length b) (make day)) b r b' → Answers (in_room (length b) (of_sheet v make)) b r b'
   unfolding of_sheet
-  judged-made d {r} {b'} u = subst (λ (m : Made). Answers (in_room (length b) m) b r b') (ap (λ (w : Verdict). of_sheet w make) (sym (ap judged_says d) ∙ q)) u
+  judged-made d r {b'} u = subst (λ (m : Made). Answers (in_room (length b) m) b r b') (ap (λ (w : Verdict). of_sheet w make) (sym (ap judged_says d) ∙ q)) u
 
-  pub judged-refused : {number byte : ℕ} → j ≡ J.Refused number byte → Answers (in_room (length b) (of_sheet v make)) b (Filled.Refused number byte) b
+  pub judged-refused : {refusal : Refusal} → j ≡ Err refusal → (r : Result ℕ Refusal) → written_says r ≡ refuses (fault_number refusal.fault) refusal.at → Answers (in_room (length b) (of_sheet v make)) b r b
   unfolding of_sheet in_room
-  judged-refused {number} {byte} d = answers b b _ _ (refused number byte) (ap (λ (w : Verdict). in_room (length b) (of_sheet w make)) (sym q ∙ ap judged_says d)) refl refl
+  judged-refused {refusal} d r e = answers b b r _ (refused (fault_number refusal.fault) refusal.at) (ap (λ (w : Verdict). in_room (length b) (of_sheet w make)) (sym q ∙ ap judged_says d)) e refl
 
 -- ---- what is made
 

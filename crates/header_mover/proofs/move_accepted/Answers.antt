@@ -1,22 +1,23 @@
--- `header_mover::move_accepted` meets its contract: a number that was found, or the moved sheet. Assumes nothing.
+-- `header_mover::move_accepted` meets its contract: a fault that was found, or the moved sheet. Assumes nothing.
+use mathlib.Core.Path.{◌≡◌}
 use borrow.Author.Rules.{rules}
-use Rattle.header_mover.proofs.Moving.{header-starts, moved-most, move-refused, move-fitting, move-whole}
+use Rattle.field.specs.Said.{found}
+use Rattle.header_mover.proofs.Moving.{header-starts, move-refused, move-fitting, move-whole}
 use Rattle.header_mover.proofs.move_accepted.Goals as goal
 
 pub overflow_sub-len : goal.overflow_sub-len
 overflow_sub-len c = header-starts c.args.sheet.now c.args.day c.requires c.header_size-2.ensures
 
-pub overflow_add-len : goal.overflow_add-len
-overflow_add-len c = search (moved-most c.args.sheet.now c.args.day c.requires c.args.wanted c.header_size.ensures c.header_size-2.ensures, rules)
-
-pub returns-then-found-ne-FINE : goal.returns-then-found-ne-FINE
-returns-then-found-ne-FINE c =
-    move-refused c.args.sheet.now c.args.out.now c.args.day c.args.wanted c.requires c.header_size.ensures c.header_size-2.ensures c.is_movable.ensures c.move_number-found.ensures c.if-found-ne-FINE.true
+pub returns-in_err-map_err : goal.returns-in_err-map_err
+returns-in_err-map_err c =
+    move-refused c.args.sheet.now c.args.out.now c.args.day c.args.wanted c.requires c.header_size.ensures c.header_size-2.ensures c.is_movable.ensures c.judge_move.result c.judge_move.ensures c.from_residual.result (search rules)
 
 pub put_moved-requires : goal.put_moved-requires
 put_moved-requires c =
-    move-fitting c.args.sheet.now c.args.out.now c.args.day c.args.wanted c.requires c.header_size.ensures c.header_size-2.ensures c.is_movable.ensures c.move_number-found.ensures c.if-found-ne-FINE.false
+    let none : found c.judge_move.result ≡ 0 = search rules in
+    move-fitting c.args.sheet.now c.args.out.now c.args.day c.args.wanted c.requires c.header_size.ensures c.header_size-2.ensures c.is_movable.ensures c.judge_move.result c.judge_move.ensures none
 
 pub returns : goal.returns
 returns c =
-    move-whole c.args.sheet.now c.args.out.now c.args.day c.args.wanted c.requires c.header_size.ensures c.header_size-2.ensures c.is_movable.ensures c.move_number-found.ensures c.if-found-ne-FINE.false c.put_moved.ensures
+    let none : found c.judge_move.result ≡ 0 = search rules in
+    move-whole c.args.sheet.now c.args.out.now c.args.day c.args.wanted c.requires c.header_size.ensures c.header_size-2.ensures c.is_movable.ensures c.judge_move.result c.judge_move.ensures none c.put_moved.ensures
