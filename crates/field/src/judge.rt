@@ -120,6 +120,7 @@ fn right_if_present(present: bool, instrument: u8, price: Price) -> bool
     !present || price_right(instrument, price)
 }
 
+// A quote's sides and prices are given one by one, as the definitions have them and as `Field::Quote` holds them.
 fn sides_right(sides: u8, bid: Price, offer: Price) -> bool
     ensures { result ≡ sides_right sides bid offer }
 {

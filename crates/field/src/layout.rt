@@ -32,7 +32,7 @@ pub fn tag_right(tag: u8) -> bool
     is_within(1, 6, tag as u32)
 }
 
-// The length of a tag's body; 0 where there is no such tag.
+// The length of a tag's body; 0 where there is no such tag, as in the table that the definitions have: it can't fail.
 pub fn length_of(tag: u8) -> u16
     ensures { result ≡ length_of tag }
 {

@@ -164,7 +164,8 @@ fn past_closes(sheet: &[u8], from: Reached) -> Reached
     Reached { at, progress }
 }
 
-// Judges field after field from where one has come to: whatever may stand there.
+// Judges field after field from where one has come to: whatever may stand there. A loop with no count: where the next field stands is known only once
+// this one is read.
 fn judge_from(sheet: &[u8], from: Reached) -> Result<Day, Refusal>
     requires { OnTrack sheet.now from.at from.progress }
     ensures { judged_says result ≡ judge_sheet sheet.now }

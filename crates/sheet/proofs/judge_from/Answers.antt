@@ -1,11 +1,11 @@
 -- `sheet::judge_from` meets its contract: each need is a law of the loop. Assumes nothing.
 use borrow.Author.Rules.{rules}
 use Rattle.sheet.specs.laws.Walk.{less-read}
-use Rattle.sheet.specs.laws.Track.{at-refusal, at_room, at-stop, at_last, at_next}
+use Rattle.sheet.specs.laws.Track.{told-refusal, at_room, at-stop, at_last, at_next}
 use Rattle.sheet.proofs.judge_from.Goals as goal
 
 pub returns-in_err-field : goal.returns-in_err-field
-returns-in_err-field c = search (at-refusal, rules)
+returns-in_err-field c = search (told-refusal, rules)
 
 pub returns-in-Err : goal.returns-in-Err
 returns-in-Err c = at-stop _ _ _ c.loop-field.invariant c.shape_at.ensures c.in_ok-field.was c.admit.ensures c.in-Err.is

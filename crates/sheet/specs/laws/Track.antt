@@ -66,8 +66,13 @@ module _ (s : List ℕ) (at : ℕ) (p : Progress) (o : OnTrack s at p) {f : Fiel
 -- ---- as the judge of any field finds it
 
 module _ (s : List ℕ) (at : ℕ) (p : Progress) (o : OnTrack s at p) {r : Result (Field × ℕ) Refusal} (e : read_says r ≡ shape_at s at) where
-  pub at-refusal : {refusal : Refusal} → r ≡ Err refusal → refuses-at (fault_number refusal.fault) refusal.at ≡ judge_sheet s
-  at-refusal d = on-refusal s at p o (read-stopped s at e d)
+  pub at-refusal : {refusal : Refusal} → r ≡ Err refusal → refuses-at (fault_number refusal.fault) at ≡ judge_sheet s
+  unfolding judge_reads
+  at-refusal d = rw (reads-stop s at (read-stopped s at e d)) at o.same
+
+  -- the refusal's own place is that place
+  pub told-refusal : {refusal : Refusal} → r ≡ Err refusal → refuses-at (fault_number refusal.fault) refusal.at ≡ judge_sheet s
+  told-refusal d = on-refusal s at p o (read-stopped s at e d)
 
   module _ {f : Field} {next : ℕ} (d : r ≡ Ok (f, next)) where
     pub at_room : p.count < 1048576
