@@ -210,7 +210,9 @@ pub fn both_sides_right(instrument: u8, bid: Price, offer: Price) -> bool
     instrument <= 11 && lowest(instrument) <= bid && bid <= offer && offer <= highest(instrument)
 }
 
-// The first fault that a field's values earn behind what came before, if any.
+// The first fault that a field's values earn behind what came before, if any. In line: a caller that knows the field's kind has the tests of that kind
+// and no others.
+#[inline(always)]
 pub fn judge(before: Before, field: Field) -> Result<(), Fault>
     ensures { found result ≡ Judging.judge before field }
 {
