@@ -1,17 +1,16 @@
 // Reads one field at a place of a sheet: its values with the place behind it, or the first fault that it earns; and its body as a part of the sheet.
 #![tactic(auto, using(crate::specs::laws::Heads::given_read, crate::specs::laws::Heads::fault_read), unfolding(field::specs::Judging::unless, field::specs::Judging::both, field::specs::Said::settled, field::specs::Reading::head_number, field::specs::Reading::shape_at, field::specs::Reading::read_field))]
 
-ghost use Rattle.std.specs.Prelude.{◌≡◌, ◌≤◌, true, length, get_or};
-ghost use Rattle.field.specs.Layout.{tag_right, length_of, header_by, previous_of, trade_of, quote_of, field_of};
+ghost use Rattle.std.specs.Prelude.{◌≡◌, get_or};
 ghost use Rattle.field.specs.Said.{found, read_says};
 ghost use Rattle.field.specs.Reading.{head_number, shape_at, read_field, body_of};
-ghost use Rattle.field_reader.specs.laws.Heads.{Judged, said_at};
+ghost use Rattle.field_reader.specs.laws.Heads.{said_at};
 
-use field::judge::{by_itself, judge_header, judge_previous, judge_quote, judge_trade, require};
+use field::judge::{by_itself, judge, require};
 use field::layout::{length_of, remaining, size_of, tag_right};
-use field::{Fault, Field, Form, Refusal, layout};
-use raw_reader::{end_of, field_of, price_at};
-use wire::{join2, join4};
+use field::{Fault, Field, Refusal, layout};
+use raw_reader::field_of;
+use wire::join2;
 
 // What the head at a place earns under a tag: 2 where it is not whole, then 3, 4, and 2 for the body.
 fn judge_head(sheet: &[u8], at: usize, tag: u8) -> Result<(), Fault>
@@ -37,92 +36,16 @@ pub fn shape_at(sheet: &[u8], at: usize) -> Result<(Field, usize), Refusal>
     Ok((field_of(tag, &sheet[at + 3..next]), next))
 }
 
-// A body's values judged by themselves, by its tag: as numbers, so that no field is made before it is right.
-fn header_values(body: &[u8], form: Form) -> Result<Field, Fault>
-    requires { 3 ≤ length body.now }
-    ensures { Judged (header_by form body.now) result }
-{
-    let metal = body[0];
-    let marks = join2(body[1], body[2]);
-    judge_header(metal, marks, form)?;
-    Ok(Field::Header { metal, marks, form })
-}
-
-fn previous_values(body: &[u8]) -> Result<Field, Fault>
-    requires { length body.now ≡ 5 }
-    ensures { Judged (previous_of body.now) result }
-{
-    let instrument = body[0];
-    let price = price_at(body, 1);
-    judge_previous(by_itself(), instrument, price)?;
-    Ok(Field::PreviousClose { instrument, price })
-}
-
-fn trade_values(body: &[u8]) -> Result<Field, Fault>
-    requires { length body.now ≡ 11 }
-    ensures { Judged (trade_of body.now) result }
-{
-    let time = join4(body[0], body[1], body[2], body[3]);
-    let instrument = body[4];
-    let price = price_at(body, 5);
-    let lots = join2(body[9], body[10]);
-    judge_trade(by_itself(), time, instrument, price, lots)?;
-    Ok(Field::Trade {
-        time,
-        instrument,
-        price,
-        lots,
-    })
-}
-
-fn quote_values(body: &[u8]) -> Result<Field, Fault>
-    requires { length body.now ≡ 14 }
-    ensures { Judged (quote_of body.now) result }
-{
-    let time = join4(body[0], body[1], body[2], body[3]);
-    let instrument = body[4];
-    let sides = body[5];
-    let bid = price_at(body, 6);
-    let offer = price_at(body, 10);
-    // Most quotes have both sides: told so, the compiler leaves the tests of absent sides out.
-    if sides == 3 {
-        judge_quote(by_itself(), time, instrument, 3, bid, offer)?;
-    } else {
-        judge_quote(by_itself(), time, instrument, sides, bid, offer)?;
-    }
-    Ok(Field::Quote {
-        time,
-        instrument,
-        sides,
-        bid,
-        offer,
-    })
-}
-
-// The values of a body of the tag.
-#[tactic(auto, unfolding(field::specs::Layout::field_of, field::specs::Judging::judge, field::specs::Judging::both))]
-fn body_values<const TAG: u8>(body: &[u8]) -> Result<Field, Fault>
-    requires { (tag_right TAG ≡ true) × (length body.now ≡ length_of TAG) }
-    ensures { Judged (field_of TAG body.now) result }
-{
-    match TAG {
-        layout::HEADER => header_values(body, Form::Short),
-        layout::PREVIOUS_CLOSE => previous_values(body),
-        layout::TRADE => trade_values(body),
-        layout::QUOTE => quote_values(body),
-        layout::END => Ok(end_of(body)),
-        _ => header_values(body, Form::Long(body[3])),
-    }
-}
-
-// The field at a place where the tag stands. The tag is known when a program is compiled, so that each has its own tests and no others.
+// The field at a place where the tag stands. The tag is known when a program is compiled, so that each has its own tests and no others, and no field
+// passes through memory before it is right.
 fn field_as<const TAG: u8>(sheet: &[u8], at: usize) -> Result<(Field, usize), Fault>
     requires { get_or sheet.now at 0 ≡ TAG }
     ensures { said_at at result ≡ read_field sheet.now at }
 {
     judge_head(sheet, at, TAG)?;
     let next = at + size_of(TAG);
-    let field = body_values::<TAG>(&sheet[at + 3..next])?;
+    let field = field_of(TAG, &sheet[at + 3..next]);
+    judge(by_itself(), field)?;
     Ok((field, next))
 }
 

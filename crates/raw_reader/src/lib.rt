@@ -77,7 +77,8 @@ pub fn end_of(body: &[u8]) -> Field
     }
 }
 
-// The values of a tag's body.
+// The values of a tag's body. In line: a caller that knows the tag has that tag's values and no others.
+#[inline(always)]
 #[tactic(auto, unfolding(field::specs::Layout::field_of, field::specs::Judging::both))]
 pub fn field_of(tag: u8, body: &[u8]) -> Field
     requires { (tag_right tag ≡ true) × (length body.now ≡ length_of tag) }

@@ -5,7 +5,7 @@
 --     head_read      and the read is what its values earn
 --     settled-as     values that were read one by one
 -- Assumes nothing.
-use Rattle.std.specs.Prelude.{ℕ, zero, suc, ◌+◌, ◌-◌, ◌<◌, ◌≤◌, ◌≡◌, refl, Bool, true, false, List, length, get_or, take, drop, Result, Ok, Err, MatchResult}
+use Rattle.std.specs.Prelude.{ℕ, zero, suc, ◌+◌, ◌-◌, ◌<◌, ◌≤◌, ◌≡◌, refl, Bool, true, false, List, length, get_or, take, drop, Result, Ok, Err}
 use Rattle.std.proofs.Common.{sym, ap, ◌∙◌, arith}
 use Rattle.wire.specs.Big.{be2_at}
 use Rattle.field.specs.declared.Before.{Before}
@@ -48,10 +48,6 @@ module _ (s : List ℕ) (at tag : ℕ) {told rest : ℕ} (h : Heads s at tag tol
   pub head-whole : n ≡ fine → at + size_of tag ≤ length s
   head-whole none = (head-stood none).head.whole
 
--- a field's values, judged by themselves: the field, or the number that they earn
-abbrev pub Judged : Field → Result Field Fault → Type 0
-Judged f r = MatchResult r (λ g. (g ≡ f) × (judge alone f ≡ fine)) (λ fault. judge alone f ≡ fault_number fault)
-
 -- what an answer at a place says
 abbrev pub said_at : ℕ → Result (Field × ℕ) Fault → Said Field
 said_at at (Ok (f, next)) = gives f next
@@ -63,7 +59,7 @@ pub head_read : (s : List ℕ) (at tag : ℕ) → Stood s at tag → {x : Said F
     → x ≡ read_field s at
 head_read s at tag h e = e ∙ rw (part-is s at tag) (sym (stood-read s at tag h))
 
--- so is the field that judged values are, and the fault that they earn
+-- so the field of the body is read, or the fault that it earns
 module _ (s : List ℕ) (at tag : ℕ) (t : get_or s at 0 ≡ tag) (e : head_number s at tag ≡ fine) where
   abbrev body : List ℕ
   body = take (at + size_of tag - (at + 3)) (drop (at + 3) s)
@@ -71,8 +67,8 @@ module _ (s : List ℕ) (at tag : ℕ) (t : get_or s at 0 ≡ tag) (e : head_num
   there : Stood s at tag
   there = record { tagged = t; head = headed s at tag e }
 
-  pub given_read : (f : Field) → f ≡ field_of tag body → judge alone (field_of tag body) ≡ fine → gives f (at + size_of tag) ≡ read_field s at
-  given_read f same none = head_read s at tag there (rw same (sym (settled-fine _ at _ _ none)))
+  pub given_read : (f : Field) → f ≡ field_of tag body → judge alone f ≡ fine → gives f (at + size_of tag) ≡ read_field s at
+  given_read f same none = head_read s at tag there (rw (← same) (sym (settled-fine _ at _ _ none)))
 
   pub fault_read : (fault : Fault) → judge alone (field_of tag body) ≡ fault_number fault → refuses (fault_number fault) at ≡ read_field s at
   fault_read fault is = head_read s at tag there (rw is (sym (settled-not _ at _ _ (fault-not-fine fault))))
