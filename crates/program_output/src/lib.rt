@@ -1,13 +1,14 @@
-// What programs that turn one file into another share: room for the longest sheet and the longest text, and what they write, the first bytes of a
-// buffer to a file or a text to standard error. Hosts don't call it.
+// What programs that turn one file into another share: the input is read whole and turned by one function, and what that function put at the start of
+// a buffer, or what refused it, is handed out. Hosts don't call it.
 #![tactic(auto)]
 
-ghost use Rattle.std.specs.Prelude.{◌≡◌, length, replicate};
+ghost use Rattle.std.specs.Prelude.{◌<◌, ◌^◌};
 
 use filled_buffer::Filled;
 use list_lines::put_refusal;
-use std::io::{Print, Result};
+use std::io::{Print, Read, Result};
 use text::{Put, Text};
+use whole_input::{read_full, room};
 
 // How many bytes a sheet may have.
 pub const LONGEST_SHEET: usize = 1_048_576;
@@ -15,35 +16,24 @@ pub const LONGEST_SHEET: usize = 1_048_576;
 // How many bytes a text may have: no accepted sheet has a longer one.
 pub const LONGEST_TEXT: usize = 3_145_728;
 
-// Room for the longest sheet and one byte more, so that a longer one shows.
-pub fn sheet_room() -> [u8; 1_048_577]
-    ensures value { result ≡ replicate 1048577 0 }
-    ensures result_len { length result ≡ 1048577 }
-{
-    [0; 1_048_577]
-}
+// Room for the longest sheet, and for the longest text, and one byte more, so that a longer one shows.
+pub const SHEET_ROOM: usize = LONGEST_SHEET + 1;
 
-// Room for the longest text and one byte more, so that a longer one shows.
-pub fn text_room() -> [u8; 3_145_729]
-    ensures value { result ≡ replicate 3145729 0 }
-    ensures result_len { length result ≡ 3145729 }
-{
-    [0; 3_145_729]
-}
+pub const TEXT_ROOM: usize = LONGEST_TEXT + 1;
 
 // The first n bytes, where there are so many.
 pub fn write_part<P: Print>(file: &P, bytes: &[u8], n: usize) -> Result<()> {
-    if n <= bytes.len() {
-        file.write_all(&bytes[..n])?;
+    match bytes.get(..n) {
+        Some(part) => file.write_all(part),
+        None => Ok(()),
     }
-    Ok(())
 }
 
-// A text on standard error.
-pub fn say<E: Print>(error: &E, text: Text) -> Result<()> {
+// A text to a file.
+pub fn say<P: Print>(file: &P, text: Text) -> Result<()> {
     let mut out = [0u8; 512];
     match text.put_into(&mut out, 0) {
-        Put::Next(n) => write_part(error, &out, n),
+        Put::Next(n) => write_part(file, &out, n),
         Put::Full => Ok(()),
     }
 }
@@ -61,4 +51,40 @@ pub fn hand_out<O: Print, E: Print>(
             say(error, put_refusal(Text::empty(), number, place as u64))
         }
     }
+}
+
+// What is made of the bytes in a buffer of its own, handed out.
+fn turn<const OUT: usize, O: Print, E: Print, F: Fn(&[u8], &mut [u8]) -> Filled>(
+    output: &O,
+    error: &E,
+    given: &[u8],
+    make: F,
+) -> Result<()>
+    requires callable { F.IsAlwaysCallable make }
+    requires fits { OUT < 2 ^ 63 }
+{
+    let mut made = room::<OUT>();
+    let told = make(given, &mut made);
+    hand_out(output, error, told, &made)
+}
+
+// Reads the input to its end and hands out what is made of it; an input that fills its room is too long. A read or a write that fails is an error.
+pub fn turn_input<
+    const IN: usize,
+    const OUT: usize,
+    R: Read,
+    O: Print,
+    E: Print,
+    F: Fn(&[u8], &mut [u8]) -> Filled,
+>(input: &mut R, output: &O, error: &E, make: F) -> Result<()>
+    requires callable { F.IsAlwaysCallable make }
+    requires given_fits { IN < 2 ^ 63 }
+    requires made_fits { OUT < 2 ^ 63 }
+{
+    let mut given = room::<IN>();
+    let n = read_full(input, &mut given)?;
+    if n == given.len() {
+        return say(error, Text::empty().put(b"too long\n"));
+    }
+    turn::<OUT, O, E, F>(output, error, &given[..n], make)
 }

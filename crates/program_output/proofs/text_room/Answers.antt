@@ -1,8 +1,0 @@
--- `program_output::text_room` meets its contract. Assumes nothing.
-use Prim.Native.Nat.{ℕ}
-use mathlib.Core.Path.{refl}
-use lib.ListN.{length-replicate}
-use Rattle.program_output.proofs.text_room.Goals as goal
-
-pub returns : goal.returns
-returns c = record { value = refl; result_len = length-replicate {A = ℕ} 3145729 0 }
