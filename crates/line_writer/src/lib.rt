@@ -4,7 +4,7 @@
 ghost use Rattle.std.specs.Prelude.{◌≡◌, ◌∷◌, ◌++◌, ◌+◌, ◌≤◌, length, take};
 ghost use Rattle.text.specs.Over.{over};
 ghost use Rattle.text.specs.Decimal.{decimal};
-ghost use Rattle.dollars.specs.Dollars.{amount, price_text};
+ghost use Rattle.dollars.specs.Dollars.{amount, sign_of, price_text};
 ghost use Rattle.names.specs.Names.{metal_name, instrument_name};
 ghost use Rattle.line_reader.specs.Lines.{side_text};
 ghost use Rattle.line_reader.specs.laws.Pieces.{form_text};
@@ -15,153 +15,193 @@ ghost use Rattle.text.specs.laws.Putting.{Puts};
 use field::{Field, Form, Price};
 use names::{Name, instrument_name, metal_name};
 use text::{Put, put_bytes};
-use wire::bits_of;
 
-// Bytes at a place; the place behind them.
-fn put(buf: &mut [u8], at: usize, s: &[u8]) -> usize
-    ensures { Puts buf.old at s.now result buf.new }
-{
-    match put_bytes(buf, at, s) {
-        Put::Next(next) => next,
-        Put::Full => at,
-    }
+// A lent buffer, and the place in it that the next bytes go to.
+#[derive(Drop)]
+struct Line<'a> {
+    buf: &'a mut [u8],
+    at: usize,
 }
 
-// A number in decimal.
-fn put_number(buf: &mut [u8], at: usize, n: u32) -> usize
-    ensures { Puts buf.old at (decimal n) result buf.new }
-{
-    let mut digits = [0u8; 20];
-    let k = io::decimal(n as u64, &mut digits);
-    put(buf, at, &digits[..k])
-}
-
-// A name that is held by value.
-fn put_name(buf: &mut [u8], at: usize, name: Name) -> usize
-    requires { name.len ≤ 9 }
-    ensures { Puts buf.old at (take name.len name.bytes) result buf.new }
-{
-    let store = name.bytes;
-    let len = name.len;
-    put(buf, at, &store[..len])
-}
-
-fn put_metal(buf: &mut [u8], at: usize, metal: u8) -> usize
-    ensures { Puts buf.old at (metal_name metal) result buf.new }
-{
-    put_name(buf, at, metal_name(metal))
-}
-
-fn put_instrument(buf: &mut [u8], at: usize, instrument: u8) -> usize
-    ensures { Puts buf.old at (instrument_name instrument) result buf.new }
-{
-    put_name(buf, at, instrument_name(instrument))
-}
-
-// Dollars with two decimals and no sign.
-fn put_amount(buf: &mut [u8], at: usize, cents: u32) -> usize
-    ensures { Puts buf.old at (amount cents) result buf.new }
-{
-    let tens = (cents / 10 % 10) as u8;
-    let units = (cents % 10) as u8;
-    let end = [46u8, 48 + tens, 48 + units];
-    let next = put_number(buf, at, cents / 100);
-    put(buf, next, &end)
-}
-
-// A price, a minus before a negative one.
-fn put_price(buf: &mut [u8], at: usize, price: Price) -> usize
-    ensures { Puts buf.old at (price_text price.cents) result buf.new }
-{
-    let bits = bits_of(price.cents);
-    if bits < 2_147_483_648 {
-        return put_amount(buf, at, bits);
-    }
-    let next = put(buf, at, b"-");
-    put_amount(buf, next, 4_294_967_295 - bits + 1)
-}
-
-// A side of a quote, or a dash.
-fn put_side(buf: &mut [u8], at: usize, present: bool, price: Price) -> usize
-    ensures { Puts buf.old at (side_text present price) result buf.new }
-{
-    if present {
-        return put_price(buf, at, price);
-    }
-    put(buf, at, b"-")
-}
-
-// What a header's form puts behind its marks: a long one's third value.
-fn put_form(buf: &mut [u8], at: usize, form: Form) -> usize
-    ensures { Puts buf.old at (form_text form) result buf.new }
-{
-    match form {
-        Form::Short => at,
-        Form::Long(third) => {
-            let next = put(buf, at, b",");
-            put_number(buf, next, third as u32)
+impl<'a> Line<'a> {
+    // Bytes at the place, which is then behind them.
+    fn put(&mut self, s: &[u8])
+        ensures buffer { self.new.buf.ghost_name ≡ self.old.buf.ghost_name }
+        ensures puts { Puts self.old.buf.now self.old.at s.now self.new.at self.new.buf.now }
+    {
+        if let Put::Next(next) = put_bytes(self.buf, self.at, s) {
+            self.at = next;
         }
     }
-}
 
-fn put_header(buf: &mut [u8], at: usize, metal: u8, marks: u16, form: Form) -> usize
-    ensures { Puts buf.old at (line_text (F.Header metal marks form)) result buf.new }
-{
-    let a = put(buf, at, b"METAL,");
-    let b = put_metal(buf, a, metal);
-    let c = put(buf, b, b",");
-    let d = put_number(buf, c, marks as u32);
-    let e = put_form(buf, d, form);
-    put(buf, e, b"\n")
-}
+    // A number in decimal.
+    fn number(&mut self, n: u32)
+        ensures buffer { self.new.buf.ghost_name ≡ self.old.buf.ghost_name }
+        ensures puts { Puts self.old.buf.now self.old.at (decimal n) self.new.at self.new.buf.now }
+    {
+        let mut digits = [0u8; 20];
+        let k = io::decimal(n as u64, &mut digits);
+        self.put(&digits[..k]);
+    }
 
-fn put_previous(buf: &mut [u8], at: usize, instrument: u8, price: Price) -> usize
-    ensures { Puts buf.old at (line_text (F.PreviousClose instrument price)) result buf.new }
-{
-    let a = put(buf, at, b"PREV,");
-    let b = put_instrument(buf, a, instrument);
-    let c = put(buf, b, b",");
-    let d = put_price(buf, c, price);
-    put(buf, d, b"\n")
-}
+    // Dollars with two decimals and no sign.
+    fn amount(&mut self, cents: u32)
+        ensures buffer { self.new.buf.ghost_name ≡ self.old.buf.ghost_name }
+        ensures puts { Puts self.old.buf.now self.old.at (amount cents) self.new.at self.new.buf.now }
+    {
+        let tens = (cents / 10 % 10) as u8;
+        let units = (cents % 10) as u8;
+        self.number(cents / 100);
+        self.put(&[b'.', b'0' + tens, b'0' + units]);
+    }
+    // A minus, where the number is negative.
+    fn sign(&mut self, cents: i32)
+        ensures buffer { self.new.buf.ghost_name ≡ self.old.buf.ghost_name }
+        ensures puts { Puts self.old.buf.now self.old.at (sign_of cents) self.new.at self.new.buf.now }
+    {
+        if cents < 0 {
+            self.put(b"-");
+        }
+    }
 
-// The two items that trades and quotes begin with.
-fn put_stamp(buf: &mut [u8], at: usize, time: u32, instrument: u8) -> usize
-    ensures { Puts buf.old at (decimal time ++ 44 ∷ instrument_name instrument) result buf.new }
-{
-    let a = put_number(buf, at, time);
-    let b = put(buf, a, b",");
-    put_instrument(buf, b, instrument)
-}
+    fn price(&mut self, price: Price)
+        ensures buffer { self.new.buf.ghost_name ≡ self.old.buf.ghost_name }
+        ensures puts { Puts self.old.buf.now self.old.at (price_text price.cents) self.new.at self.new.buf.now }
+    {
+        let cents = price.cents;
+        self.sign(cents);
+        self.amount(cents.unsigned_abs());
+    }
 
-fn put_trade(buf: &mut [u8], at: usize, time: u32, instrument: u8, price: Price, lots: u16) -> usize
-    ensures { Puts buf.old at (line_text (F.Trade time instrument price lots)) result buf.new }
-{
-    let a = put_stamp(buf, at, time, instrument);
-    let b = put(buf, a, b",TRADE,");
-    let c = put_price(buf, b, price);
-    let d = put(buf, c, b",");
-    let e = put_number(buf, d, lots as u32);
-    put(buf, e, b"\n")
-}
+    // A side of a quote, or a dash.
+    fn side(&mut self, present: bool, price: Price)
+        ensures buffer { self.new.buf.ghost_name ≡ self.old.buf.ghost_name }
+        ensures puts { Puts self.old.buf.now self.old.at (side_text present price) self.new.at self.new.buf.now }
+    {
+        if present {
+            self.price(price)
+        } else {
+            self.put(b"-")
+        }
+    }
 
-fn put_quote(
-    buf: &mut [u8],
-    at: usize,
-    time: u32,
-    instrument: u8,
-    sides: u8,
-    bid: Price,
-    offer: Price,
-) -> usize
-    ensures { Puts buf.old at (line_text (F.Quote time instrument sides bid offer)) result buf.new }
-{
-    let a = put_stamp(buf, at, time, instrument);
-    let b = put(buf, a, b",QUOTE,");
-    let c = put_side(buf, b, sides % 2 == 1, bid);
-    let d = put(buf, c, b",");
-    let e = put_side(buf, d, sides / 2 % 2 == 1, offer);
-    put(buf, e, b"\n")
+    // A name that is held by value.
+    fn name(&mut self, name: Name)
+        requires { name.len ≤ 9 }
+        ensures buffer { self.new.buf.ghost_name ≡ self.old.buf.ghost_name }
+        ensures puts { Puts self.old.buf.now self.old.at (take name.len name.bytes) self.new.at self.new.buf.now }
+    {
+        let store = name.bytes;
+        let len = name.len;
+        self.put(&store[..len]);
+    }
+
+    fn metal(&mut self, metal: u8)
+        ensures buffer { self.new.buf.ghost_name ≡ self.old.buf.ghost_name }
+        ensures puts { Puts self.old.buf.now self.old.at (metal_name metal) self.new.at self.new.buf.now }
+    {
+        self.name(metal_name(metal));
+    }
+
+    fn instrument(&mut self, instrument: u8)
+        ensures buffer { self.new.buf.ghost_name ≡ self.old.buf.ghost_name }
+        ensures puts { Puts self.old.buf.now self.old.at (instrument_name instrument) self.new.at self.new.buf.now }
+    {
+        self.name(instrument_name(instrument));
+    }
+
+    // What a header's form puts behind its marks: a long one's third value.
+    fn form(&mut self, form: Form)
+        ensures buffer { self.new.buf.ghost_name ≡ self.old.buf.ghost_name }
+        ensures puts { Puts self.old.buf.now self.old.at (form_text form) self.new.at self.new.buf.now }
+    {
+        if let Form::Long(third) = form {
+            self.put(b",");
+            self.number(third as u32);
+        }
+    }
+
+    fn header(&mut self, metal: u8, marks: u16, form: Form)
+        ensures buffer { self.new.buf.ghost_name ≡ self.old.buf.ghost_name }
+        ensures puts { Puts self.old.buf.now self.old.at (line_text (F.Header metal marks form)) self.new.at self.new.buf.now }
+    {
+        self.put(b"METAL,");
+        self.metal(metal);
+        self.put(b",");
+        self.number(marks as u32);
+        self.form(form);
+        self.put(b"\n");
+    }
+
+    fn previous(&mut self, instrument: u8, price: Price)
+        ensures buffer { self.new.buf.ghost_name ≡ self.old.buf.ghost_name }
+        ensures puts { Puts self.old.buf.now self.old.at (line_text (F.PreviousClose instrument price)) self.new.at self.new.buf.now }
+    {
+        self.put(b"PREV,");
+        self.instrument(instrument);
+        self.put(b",");
+        self.price(price);
+        self.put(b"\n");
+    }
+
+    // The two items that trades and quotes begin with.
+    fn stamp(&mut self, time: u32, instrument: u8)
+        ensures buffer { self.new.buf.ghost_name ≡ self.old.buf.ghost_name }
+        ensures puts { Puts self.old.buf.now self.old.at (decimal time ++ 44 ∷ instrument_name instrument) self.new.at self.new.buf.now }
+    {
+        self.number(time);
+        self.put(b",");
+        self.instrument(instrument);
+    }
+
+    fn trade(&mut self, time: u32, instrument: u8, price: Price, lots: u16)
+        ensures buffer { self.new.buf.ghost_name ≡ self.old.buf.ghost_name }
+        ensures puts { Puts self.old.buf.now self.old.at (line_text (F.Trade time instrument price lots)) self.new.at self.new.buf.now }
+    {
+        self.stamp(time, instrument);
+        self.put(b",TRADE,");
+        self.price(price);
+        self.put(b",");
+        self.number(lots as u32);
+        self.put(b"\n");
+    }
+
+    fn quote(&mut self, time: u32, instrument: u8, sides: u8, bid: Price, offer: Price)
+        ensures buffer { self.new.buf.ghost_name ≡ self.old.buf.ghost_name }
+        ensures puts { Puts self.old.buf.now self.old.at (line_text (F.Quote time instrument sides bid offer)) self.new.at self.new.buf.now }
+    {
+        self.stamp(time, instrument);
+        self.put(b",QUOTE,");
+        self.side(sides % 2 == 1, bid);
+        self.put(b",");
+        self.side(sides / 2 % 2 == 1, offer);
+        self.put(b"\n");
+    }
+
+    // A field's line; an end has none.
+    fn field(&mut self, field: Field)
+        ensures buffer { self.new.buf.ghost_name ≡ self.old.buf.ghost_name }
+        ensures puts { Puts self.old.buf.now self.old.at (line_text field) self.new.at self.new.buf.now }
+    {
+        match field {
+            Field::Header { metal, marks, form } => self.header(metal, marks, form),
+            Field::PreviousClose { instrument, price } => self.previous(instrument, price),
+            Field::Trade {
+                time,
+                instrument,
+                price,
+                lots,
+            } => self.trade(time, instrument, price, lots),
+            Field::Quote {
+                time,
+                instrument,
+                sides,
+                bid,
+                offer,
+            } => self.quote(time, instrument, sides, bid, offer),
+            Field::End { .. } => {}
+        }
+    }
 }
 
 // A field's line at a place, and the place behind it; an end has none.
@@ -170,22 +210,7 @@ pub fn put_line(buf: &mut [u8], at: usize, field: Field) -> usize
     ensures value { result ≡ at + length (line_text field) }
     ensures buf_after { buf.new ≡ over buf.old at (line_text field) }
 {
-    match field {
-        Field::Header { metal, marks, form } => put_header(buf, at, metal, marks, form),
-        Field::PreviousClose { instrument, price } => put_previous(buf, at, instrument, price),
-        Field::Trade {
-            time,
-            instrument,
-            price,
-            lots,
-        } => put_trade(buf, at, time, instrument, price, lots),
-        Field::Quote {
-            time,
-            instrument,
-            sides,
-            bid,
-            offer,
-        } => put_quote(buf, at, time, instrument, sides, bid, offer),
-        Field::End { count: _ } => at,
-    }
+    let mut line = Line { buf, at };
+    line.field(field);
+    line.at
 }

@@ -1,8 +1,8 @@
--- `line_writer::put_name` meets its contract. Assumes nothing.
+-- `line_writer::Line::name` meets its contract. Assumes nothing.
 use mathlib.Core.Path.{sym}
 use native.Mathlib.Omega.{arith}
 use lib.Seq.{length-take-le}
-use Rattle.line_writer.proofs.put_name.Goals as goal
+use Rattle.line_writer.proofs.Line.name.Goals as goal
 
 pub slice_bounds-store-end : goal.slice_bounds-store-end
 slice_bounds-store-end c = omega (arith, c.requires)

@@ -1,9 +1,0 @@
--- `line_writer::put_number` meets its contract. Assumes nothing.
-use native.Mathlib.Omega.{arith}
-use Rattle.text.specs.laws.Decimal.{spelled}
-use Rattle.text.specs.laws.Putting.{same_bytes}
-use Rattle.line_writer.proofs.put_number.Goals as goal
-
-pub returns : goal.returns
-returns c =
-    same_bytes (spelled _ _ _ (omega arith) (c.decimal-k.ensures.len, c.decimal-k.ensures.digits)) c.put.ensures
