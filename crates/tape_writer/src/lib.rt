@@ -30,17 +30,11 @@ fn text_length(sheet: &[u8]) -> usize
 {
     let mut from = 0;
     let mut len = 0;
-    loop {
-        match shape_at(sheet, from) {
-            Read::Refused(_, _) => {
-                return len;
-            }
-            Read::Field(field, next) => {
-                len += line_length(field);
-                from = next;
-            }
-        }
+    while let Read::Field(field, next) = shape_at(sheet, from) {
+        len += line_length(field);
+        from = next;
     }
+    len
 }
 
 // There is room for the text: at once where the buffer has three bytes for each of the sheet, else by measuring.
@@ -48,10 +42,7 @@ fn has_room(sheet: &[u8], room: usize) -> bool
     requires { Readable sheet.now }
     ensures { result ≡ leb (length (text_of (fields_of sheet.now))) room }
 {
-    if sheet.len() <= room / 3 {
-        return true;
-    }
-    text_length(sheet) <= room
+    sheet.len() <= room / 3 || text_length(sheet) <= room
 }
 
 // The lines of a sheet's fields, from the start of the buffer on; the place behind them.
@@ -61,17 +52,11 @@ fn put_lines(sheet: &[u8], tape: &mut [u8]) -> usize
 {
     let mut from = 0;
     let mut at = 0;
-    loop {
-        match shape_at(sheet, from) {
-            Read::Refused(_, _) => {
-                return at;
-            }
-            Read::Field(field, next) => {
-                at = put_line(tape, at, field);
-                from = next;
-            }
-        }
+    while let Read::Field(field, next) = shape_at(sheet, from) {
+        at = put_line(tape, at, field);
+        from = next;
     }
+    at
 }
 
 // The text of an accepted sheet, where there is room.

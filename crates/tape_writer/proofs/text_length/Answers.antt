@@ -9,8 +9,8 @@ ruleset lining = (len-start, len-stop, len-next, len-line, len-fits, less-read, 
 pub loop-field-init : goal.loop-field-init
 loop-field-init c = search lining
 
-pub returns-in-Refused : goal.returns-in-Refused
-returns-in-Refused c = search lining
+pub returns : goal.returns
+returns c = len-stop _ _ _ c.loop-field.invariant c.shape_at.ensures c.in_default.not-Field
 
 pub line_length-len-requires : goal.line_length-len-requires
 line_length-len-requires c = search lining

@@ -1,7 +1,7 @@
 -- What holds as the lines of a sheet's fields are measured and put into the buffer, and what the answers of `sheet_to_tape` are. Assumes nothing.
-use Rattle.std.specs.Prelude.{ℕ, ◌+◌, ◌*◌, ◌/◌, ◌≤◌, ◌<◌, Bool, true, false, ◌≡◌, List, [], ◌∷◌, ◌++◌, leb, length}
+use Rattle.std.specs.Prelude.{ℕ, ◌+◌, ◌*◌, ◌≤◌, Bool, true, false, ◌≡◌, List, [], ◌∷◌, ◌++◌, leb, length}
 use Rattle.std.proofs.Math.Path.{refl}
-use Rattle.std.proofs.Common.{sym, ap, ◌∙◌, append_assoc, append-nil, arith, le-div_iff_mul-le, length-append, le-leb, leb-true, Fits}
+use Rattle.std.proofs.Common.{sym, ap, ◌∙◌, append_assoc, append-nil, arith, length-append, leb-true, Fits}
 use Rattle.std.specs.Int.{w64}
 use Rattle.text.specs.Over.{over}
 use Rattle.text.specs.laws.Putting.{Wrote, over-length, then}
@@ -65,9 +65,14 @@ len-start s = sofar-start text_long s refl
 len-most : (s : List ℕ) (at len : ℕ) → Sofar text_long s at len → len ≤ text_long (fields_of s)
 len-most s at len o = omega (arith, o.same, ap length (ap text_of o.split ∙ text-join o.before (fields_at s at)), length-append (text_of o.before) (text_of (fields_at s at)))
 
+-- what no field was read from is refused
+no_field : (r : Read) → ((f : Field) (next : ℕ) → r ≡ R.Field f next → ⊥) → (number place : ℕ) × (r ≡ R.Refused number place)
+no_field (R.Field f next) h = absurd (h f next refl)
+no_field (R.Refused number place) h = (number, place, refl)
+
 module _ (s : List ℕ) (at len : ℕ) (o : Sofar text_long s at len) {r : Read} (e : read_says r ≡ shape_at s at) where
-  pub len-stop : {number place : ℕ} → r ≡ R.Refused number place → len ≡ text_long (fields_of s)
-  len-stop d = sofar-stop text_long s at len o e d
+  pub len-stop : ((f : Field) (next : ℕ) → r ≡ R.Field f next → ⊥) → len ≡ text_long (fields_of s)
+  len-stop h = sofar-stop text_long s at len o e (no_field r h).2
 
   pub len-next : {f : Field} {next n : ℕ} → r ≡ R.Field f next → n ≡ length (line_text f) → Sofar text_long s next (len + n)
   len-next {f} {next} {n} d q = sofar-next text_long s at len o e (λ a f. a + length (line_text f)) long-one d (ap (λ (v : ℕ). len + v) q)
@@ -77,13 +82,6 @@ module _ (s : List ℕ) (at len : ℕ) (o : Sofar text_long s at len) {r : Read}
 
   pub len-fits : Readable s → {f : Field} {next n : ℕ} → r ≡ R.Field f next → n ≡ length (line_text f) → Fits w64 (len + n)
   len-fits k {f} {next} {n} d q = record { fits = omega (arith, len-most s next (len + n) (len-next d q), k.whole, k.small) }
-
--- ---- room
-
-pub room-three : (s : List ℕ) (room : ℕ) → Readable s → length s ≤ room / 3 → true ≡ leb (text_long (fields_of s)) room
-room-three s room k h =
-    let three : 0 < 3 = omega arith in
-    sym (le-leb (text_long (fields_of s)) room (omega (arith, k.whole, (le-div_iff_mul-le three).0 h)))
 
 -- ---- putting
 
@@ -109,9 +107,9 @@ module _ (s b₀ : List ℕ) (from at : ℕ) (b : List ℕ) (o : Lining s b₀ f
   line-length = ap length o.bytes ∙ over-length b₀ (text_of o.done) 0 (omega (arith, done-most s from o.done o.sofar, o.room))
 
   module _ {r : Read} (e : read_says r ≡ shape_at s from) where
-    pub line-stop : {number place : ℕ} → r ≡ R.Refused number place → (at ≡ text_long (fields_of s)) × (b ≡ over b₀ 0 (text_of (fields_of s)))
-    line-stop d =
-        let all : o.done ≡ fields_of s = sofar-stop (λ fs. fs) s from o.done o.sofar e d in
+    pub line-stop : ((f : Field) (next : ℕ) → r ≡ R.Field f next → ⊥) → (at ≡ text_long (fields_of s)) × (b ≡ over b₀ 0 (text_of (fields_of s)))
+    line-stop h =
+        let all : o.done ≡ fields_of s = sofar-stop (λ fs. fs) s from o.done o.sofar e (no_field r h).2 in
         (o.place ∙ ap text_long all, o.bytes ∙ ap (λ (fs : List Field). over b₀ 0 (text_of fs)) all)
 
     module _ {f : Field} {next : ℕ} (d : r ≡ R.Field f next) where
