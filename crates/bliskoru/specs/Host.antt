@@ -1,6 +1,6 @@
 -- What is handed over to a C or a Rust program: numbers, and their order in lent memory.
 --     a refusal is its number; 0 says yes. What goes with a yes or with a no is laid into lent memory, and the rest of it stays as it was
-use Rattle.std.specs.Prelude.{ℕ, List, [], ◌∷◌, ◌++◌, ℤ, pos}
+use Rattle.std.specs.Prelude.{ℕ, List, [], ◌∷◌, ◌++◌, ℤ, pos, Option, Some, None}
 use Rattle.field.specs.declared.Price.{Price}
 use Rattle.field.specs.declared.Field.{Field}
 use Rattle.field.specs.declared.Field.TheVariants.{Header, PreviousClose, Trade, Quote, End}
@@ -12,14 +12,12 @@ use Rattle.price_rules.specs.declared.Method.{Method}
 use Rattle.price_rules.specs.declared.Method.TheVariants.{Vwap, Twap}
 use Rattle.price_rules.specs.Closing.{Told, close, refused, Answers, six, none-priced}
 use Rattle.filled_buffer.specs.declared.Filled.{Filled}
-use Rattle.text.specs.declared.Put.{Put}
-use Rattle.text.specs.declared.Put.TheVariants.{Next, Full}
 
 -- ---- the list: its length; no list has length 0
 
-abbrev pub length_or0 : Put → ℕ
-length_or0 (Next n) = n
-length_or0 Full = 0
+abbrev pub length_or0 : Option ℕ → ℕ
+length_or0 (Some n) = n
+length_or0 None = 0
 
 -- ---- a sheet's judgement: the number, and the byte that goes with a refusal
 

@@ -33,7 +33,6 @@ use sheet::{Judged, judge_sheet};
 use six_answers::closings;
 use tape_reader::tape_to_sheet;
 use tape_writer::sheet_to_tape;
-use text::Put;
 
 // The list's length, or 0 where the buffer has no room for it and is as it was.
 #[unsafe(no_mangle)]
@@ -41,10 +40,7 @@ pub extern "C" fn bliskoru_list(sheet: &[u8], out: &mut [u8]) -> usize
     ensures value { result ≡ length_or0 (put_place out.old 0 (list_of sheet.now)) }
     ensures out_after { out.new ≡ put_buffer out.old 0 (list_of sheet.now) }
 {
-    match closing_list(sheet, out) {
-        Put::Next(n) => n,
-        Put::Full => 0,
-    }
+    closing_list(sheet, out).unwrap_or(0)
 }
 
 // 0 where the sheet is accepted; else the refusal's number, and its byte in `at`.

@@ -5,15 +5,14 @@
 use list::closing_list;
 use program_output::write_part;
 use std::io::{Print, Result};
-use text::Put;
 use whole_input::{read_full, room};
 
 // The list of a sheet, and an empty line.
 fn print_list<P: Print>(output: &P, sheet: &[u8]) -> Result<()> {
     let mut out = [0u8; 512];
     match closing_list(sheet, &mut out) {
-        Put::Next(n) => write_part(output, &out, n)?,
-        Put::Full => output.write_all(b"no room\n")?,
+        Some(n) => write_part(output, &out, n)?,
+        None => output.write_all(b"no room\n")?,
     }
     output.write_all(b"\n")
 }

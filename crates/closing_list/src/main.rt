@@ -3,15 +3,14 @@
 
 use list::closing_list;
 use std::io::{Print, Result};
-use text::Put;
 use whole_input::read_full;
 
 // Prints the list of a sheet. 512 bytes hold every list (the law `list-fits`).
 fn print_list<P: Print>(output: &P, sheet: &[u8]) -> Result<()> {
     let mut out = [0u8; 512];
     match closing_list(sheet, &mut out) {
-        Put::Next(n) => output.write_all(&out[..n]),
-        Put::Full => Ok(()),
+        Some(n) => output.write_all(&out[..n]),
+        None => Ok(()),
     }
 }
 

@@ -1,46 +1,42 @@
 -- TAPE 4, prices: dollars with two decimals, a minus before a negative one.
-use Rattle.std.specs.Prelude.{ℕ, ◌+◌, ◌-◌, ◌*◌, ◌/◌, ◌%◌, cond, List, [], ◌∷◌, ◌++◌, eqb, ℤ, pos, negsuc, neg_ℤ, nat_abs, length, get_or, take, drop}
+use Rattle.std.specs.Prelude.{ℕ, ◌+◌, ◌-◌, ◌*◌, ◌/◌, ◌%◌, cond, List, [], ◌∷◌, ◌++◌, eqb, ℤ, pos, negsuc, neg_ℤ, nat_abs, length, get_or, take, drop, Option, Some, None}
 use Rattle.text.specs.Decimal.{digit, decimal}
-use Rattle.numerals.specs.declared.Number.{Number}
-use Rattle.numerals.specs.declared.Number.TheVariants as N
 use Rattle.numerals.specs.Numerals.{is_digit, number, given}
 use Rattle.field.specs.declared.Price.{Price}
-use Rattle.dollars.specs.declared.Money.{Money}
-use Rattle.dollars.specs.declared.Money.TheVariants.{Cents, Malformed}
 
 -- a point and two digits, as a number of cents
-unfoldable pub pointed : List ℕ → Number
+unfoldable pub pointed : List ℕ → Option ℕ
 pointed s =
     cond (eqb (length s) 3)
     (cond (eqb (get_or s 0 0) 46)
     (cond (is_digit (get_or s 1 0))
     (cond (is_digit (get_or s 2 0))
-    (N.Value ((get_or s 1 0 - 48) * 10 + (get_or s 2 0 - 48)))
-    N.Malformed) N.Malformed) N.Malformed) N.Malformed
+    (Some ((get_or s 1 0 - 48) * 10 + (get_or s 2 0 - 48)))
+    None) None) None) None
 
 -- dollars, which stop at 10,000,000, and the last three bytes
-unfoldable pub cents : List ℕ → Number
+unfoldable pub cents : List ℕ → Option ℕ
 cents s =
-    given N.Malformed (pointed (drop (length s - 3) s))
-    (λ h. given N.Malformed (number 10000000 (take (length s - 3) s))
-    (λ d. N.Value (d * 100 + h)))
+    given None (pointed (drop (length s - 3) s))
+    (λ h. given None (number 10000000 (take (length s - 3) s))
+    (λ d. Some (d * 100 + h)))
 
 abbrev pub priced : ℤ → Price
 priced z = record { cents = z }
 
-abbrev pub upward : ℕ → Money
-upward n = Cents (priced (pos n))
+abbrev pub upward : ℕ → Option Price
+upward n = Some (priced (pos n))
 
 -- no negative zero
-unfoldable pub downward : ℕ → Money
-downward n = cond (eqb n 0) Malformed (Cents (priced (neg_ℤ (pos n))))
+unfoldable pub downward : ℕ → Option Price
+downward n = cond (eqb n 0) None (Some (priced (neg_ℤ (pos n))))
 
 -- a minus, or none
-unfoldable pub price : List ℕ → Money
+unfoldable pub price : List ℕ → Option Price
 price s =
     cond (eqb (get_or s 0 0) 45)
-    (given Malformed (cents (drop 1 s)) downward)
-    (given Malformed (cents s) upward)
+    (given None (cents (drop 1 s)) downward)
+    (given None (cents s) upward)
 
 -- ---- a price written
 

@@ -1,92 +1,62 @@
 // Prices as the tape has them: dollars with two decimals, a minus before a negative one, no negative zero.
 #![tactic(auto)]
 
-ghost use Rattle.std.specs.Prelude.{◌≡◌, ◌-◌, ◌<◌, ◌^◌};
+ghost use Rattle.std.specs.Prelude.{◌≡◌, ◌<◌, ◌^◌};
 ghost use Rattle.dollars.specs.Dollars.{pointed, cents, upward, downward, price};
 
 use field::Price;
-use numerals::{Number, digit_of, is_digit, read_number};
-
-// A price in cents; or these bytes are no price.
-#[derive(Clone, Copy)]
-pub enum Money {
-    Cents(Price),
-    Malformed,
-}
+use numerals::{digit_of, is_digit, read_number};
 
 // The last three bytes of dollars: a point and two digits, as a number of cents.
-fn point_of(s: &[u8]) -> Number
+#[tactic(auto, unfolding(crate::specs::Dollars::pointed))]
+fn point_of(s: &[u8]) -> Option<u32>
     ensures { result ≡ pointed s.now }
 {
-    if s.len() != 3 {
-        return Number::Malformed;
+    let [b'.', tens, units] = s else {
+        return None;
+    };
+    if !is_digit(*tens) || !is_digit(*units) {
+        return None;
     }
-    if s[0] != 46 {
-        return Number::Malformed;
-    }
-    if !is_digit(s[1]) {
-        return Number::Malformed;
-    }
-    if !is_digit(s[2]) {
-        return Number::Malformed;
-    }
-    Number::Value(digit_of(s[1]) as u32 * 10 + digit_of(s[2]) as u32)
-}
-
-// Where the last three bytes start.
-fn last_three(len: usize) -> usize
-    ensures { result ≡ len - 3 }
-{
-    if len < 3 { 0 } else { len - 3 }
+    Some(digit_of(*tens) as u32 * 10 + digit_of(*units) as u32)
 }
 
 // Dollars with two decimals and no sign, in cents.
-fn cents_of(s: &[u8]) -> Number
+fn cents_of(s: &[u8]) -> Option<u32>
     ensures { result ≡ cents s.now }
 {
-    let k = last_three(s.len());
-    let Number::Value(h) = point_of(&s[k..]) else {
-        return Number::Malformed;
-    };
-    let Number::Value(d) = read_number(&s[..k], 10_000_000) else {
-        return Number::Malformed;
-    };
-    Number::Value(d * 100 + h)
+    let k = s.len().saturating_sub(3);
+    let h = point_of(&s[k..])?;
+    let d = read_number(&s[..k], 10_000_000)?;
+    Some(d * 100 + h)
 }
 
-fn up(n: u32) -> Money
+fn up(n: u32) -> Option<Price>
     requires { n < 2 ^ 31 }
     ensures { result ≡ upward n }
 {
-    Money::Cents(Price { cents: n as i32 })
+    Some(Price { cents: n as i32 })
 }
 
-fn down(n: u32) -> Money
+#[tactic(auto, unfolding(crate::specs::Dollars::downward))]
+fn down(n: u32) -> Option<Price>
     requires { n < 2 ^ 31 }
     ensures { result ≡ downward n }
 {
     if n == 0 {
-        return Money::Malformed;
+        return None;
     }
-    let m = n as i32;
-    Money::Cents(Price { cents: 0 - m })
+    Some(Price { cents: -(n as i32) })
 }
 
-// The price that the bytes say.
-pub fn read_price(s: &[u8]) -> Money
+// The price that the bytes say, in cents; or these bytes are no price.
+#[tactic(auto, unfolding(crate::specs::Dollars::price))]
+pub fn read_price(s: &[u8]) -> Option<Price>
     ensures { result ≡ price s.now }
 {
-    if s.len() == 0 {
-        return Money::Malformed;
+    match s {
+        [] => None,
+        [b'-', rest @ ..] => down(cents_of(rest)?),
+        _ => up(cents_of(s)?),
     }
-    if s[0] != 45 {
-        let Number::Value(n) = cents_of(s) else {
-            return Money::Malformed;
-        };
-        return up(n);
-    }
-    let Number::Value(n) = cents_of(&s[1..]) else {
-        return Money::Malformed;
-    };
-    down(n)
 }

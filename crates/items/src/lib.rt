@@ -8,12 +8,10 @@ ghost use Rattle.items.specs.Items.{end_of};
 pub fn end_of(s: &[u8], from: usize, stop: u8) -> usize
     ensures { result ≡ end_of stop s.now from }
 {
-    let mut i = from;
-    while i < s.len() {
+    for i in from..s.len() {
         if s[i] == stop {
             return i;
         }
-        i += 1;
     }
-    i
+    from.max(s.len())
 }

@@ -1,57 +1,49 @@
 // One line of the tape, without its line feed, as a field of a day sheet; what a field's line is.
 #![tactic(auto)]
 
-ghost use Rattle.std.specs.Prelude.{◌≡◌};
-ghost use Rattle.line_reader.specs.Lines.{side_in, trade_in, quote_in, header_in, long_header_in, previous_in, three, four, five, field_in};
+ghost use Rattle.std.specs.Prelude.{◌≡◌, ◌+◌, ◌*◌};
+ghost use Rattle.line_reader.specs.Lines.{side_bit, side_price, side_in, trade_in, quote_in, header_in, long_header_in, previous_in, three, four, five, field_in};
 
-use dollars::{Money, read_price};
+use dollars::read_price;
 use field::{Field, Form, Price};
 use items::end_of;
 use names::{instrument_in, is_name, metal_in};
-use numerals::{Number, read_number};
+use numerals::read_number;
 
-// The field that a line says, its values not yet judged; or the line is malformed, or names what there is not.
-#[derive(Clone, Copy)]
-pub enum Line {
-    Field(Field),
-    Malformed,
+// The bits of a quote's sides: 1 for a bid that is there, 2 for an offer.
+pub fn sides_of(bid: Option<Price>, offer: Option<Price>) -> u8
+    ensures { result ≡ side_bit bid + 2 * side_bit offer }
+{
+    u8::from(bid.is_some()) + 2 * u8::from(offer.is_some())
 }
 
-// A side of a quote: its bit and its price, both 0 where it is absent.
-#[derive(Clone, Copy)]
-pub enum Side {
-    Is(u8, Price),
-    Malformed,
+// The price of a side, zero where it is absent.
+pub fn side_price(side: Option<Price>) -> Price
+    ensures { result ≡ side_price side }
+{
+    side.unwrap_or(Price { cents: 0 })
 }
 
-fn side_in(s: &[u8]) -> Side
+// A side of a quote: its price, or a dash where it is absent.
+#[tactic(auto, unfolding(crate::specs::Lines::side_in))]
+fn side_in(s: &[u8]) -> Option<Option<Price>>
     ensures { result ≡ side_in s.now }
 {
     if is_name(s, b"-") {
-        return Side::Is(0, Price { cents: 0 });
+        return Some(None);
     }
-    match read_price(s) {
-        Money::Cents(price) => Side::Is(1, price),
-        Money::Malformed => Side::Malformed,
-    }
+    Some(Some(read_price(s)?))
 }
 
-fn trade_in(time: &[u8], instrument: &[u8], price: &[u8], lots: &[u8]) -> Line
+#[tactic(auto, unfolding(crate::specs::Lines::trade_in))]
+fn trade_in(time: &[u8], instrument: &[u8], price: &[u8], lots: &[u8]) -> Option<Field>
     ensures { result ≡ trade_in time.now instrument.now price.now lots.now }
 {
-    let Number::Value(t) = read_number(time, 4_294_967_295) else {
-        return Line::Malformed;
-    };
-    let Number::Value(i) = instrument_in(instrument) else {
-        return Line::Malformed;
-    };
-    let Money::Cents(p) = read_price(price) else {
-        return Line::Malformed;
-    };
-    let Number::Value(l) = read_number(lots, 65_535) else {
-        return Line::Malformed;
-    };
-    Line::Field(Field::Trade {
+    let t = read_number(time, u32::MAX)?;
+    let i = instrument_in(instrument)?;
+    let p = read_price(price)?;
+    let l = read_number(lots, 65_535)?;
+    Some(Field::Trade {
         time: t,
         instrument: i as u8,
         price: p,
@@ -59,73 +51,60 @@ fn trade_in(time: &[u8], instrument: &[u8], price: &[u8], lots: &[u8]) -> Line
     })
 }
 
-fn quote_in(time: &[u8], instrument: &[u8], bid: &[u8], offer: &[u8]) -> Line
+#[tactic(auto, unfolding(crate::specs::Lines::quote_in))]
+fn quote_in(time: &[u8], instrument: &[u8], bid: &[u8], offer: &[u8]) -> Option<Field>
     ensures { result ≡ quote_in time.now instrument.now bid.now offer.now }
 {
-    let Number::Value(t) = read_number(time, 4_294_967_295) else {
-        return Line::Malformed;
-    };
-    let Number::Value(i) = instrument_in(instrument) else {
-        return Line::Malformed;
-    };
-    let Side::Is(b, p) = side_in(bid) else {
-        return Line::Malformed;
-    };
-    let Side::Is(o, q) = side_in(offer) else {
-        return Line::Malformed;
-    };
-    Line::Field(Field::Quote {
+    let t = read_number(time, u32::MAX)?;
+    let i = instrument_in(instrument)?;
+    let b = side_in(bid)?;
+    let o = side_in(offer)?;
+    Some(Field::Quote {
         time: t,
         instrument: i as u8,
-        sides: b + 2 * o,
-        bid: p,
-        offer: q,
+        sides: sides_of(b, o),
+        bid: side_price(b),
+        offer: side_price(o),
     })
 }
 
 // A header of either form: its first two values.
-fn header_in(metal: &[u8], marks: &[u8], form: Form) -> Line
+#[tactic(auto, unfolding(crate::specs::Lines::header_in))]
+fn header_in(metal: &[u8], marks: &[u8], form: Form) -> Option<Field>
     ensures { result ≡ header_in metal.now marks.now form }
 {
-    let Number::Value(m) = metal_in(metal) else {
-        return Line::Malformed;
-    };
-    let Number::Value(k) = read_number(marks, 65_535) else {
-        return Line::Malformed;
-    };
-    Line::Field(Field::Header {
+    let m = metal_in(metal)?;
+    let k = read_number(marks, 65_535)?;
+    Some(Field::Header {
         metal: m as u8,
         marks: k as u16,
         form,
     })
 }
 
-fn long_header_in(metal: &[u8], marks: &[u8], third: &[u8]) -> Line
+#[tactic(auto, unfolding(crate::specs::Lines::long_header_in))]
+fn long_header_in(metal: &[u8], marks: &[u8], third: &[u8]) -> Option<Field>
     ensures { result ≡ long_header_in metal.now marks.now third.now }
 {
-    let Number::Value(t) = read_number(third, 255) else {
-        return Line::Malformed;
-    };
+    let t = read_number(third, 255)?;
     header_in(metal, marks, Form::Long(t as u8))
 }
 
-fn previous_in(instrument: &[u8], price: &[u8]) -> Line
+#[tactic(auto, unfolding(crate::specs::Lines::previous_in))]
+fn previous_in(instrument: &[u8], price: &[u8]) -> Option<Field>
     ensures { result ≡ previous_in instrument.now price.now }
 {
-    let Number::Value(i) = instrument_in(instrument) else {
-        return Line::Malformed;
-    };
-    let Money::Cents(p) = read_price(price) else {
-        return Line::Malformed;
-    };
-    Line::Field(Field::PreviousClose {
+    let i = instrument_in(instrument)?;
+    let p = read_price(price)?;
+    Some(Field::PreviousClose {
         instrument: i as u8,
         price: p,
     })
 }
 
 // Three items.
-fn of_three(a: &[u8], b: &[u8], c: &[u8]) -> Line
+#[tactic(auto, unfolding(crate::specs::Lines::three))]
+fn of_three(a: &[u8], b: &[u8], c: &[u8]) -> Option<Field>
     ensures { result ≡ three a.now b.now c.now }
 {
     if is_name(a, b"METAL") {
@@ -134,21 +113,23 @@ fn of_three(a: &[u8], b: &[u8], c: &[u8]) -> Line
     if is_name(a, b"PREV") {
         return previous_in(b, c);
     }
-    Line::Malformed
+    None
 }
 
 // Four items.
-fn of_four(a: &[u8], b: &[u8], c: &[u8], d: &[u8]) -> Line
+#[tactic(auto, unfolding(crate::specs::Lines::four))]
+fn of_four(a: &[u8], b: &[u8], c: &[u8], d: &[u8]) -> Option<Field>
     ensures { result ≡ four a.now b.now c.now d.now }
 {
     if is_name(a, b"METAL") {
         return long_header_in(b, c, d);
     }
-    Line::Malformed
+    None
 }
 
 // Five items.
-fn of_five(a: &[u8], b: &[u8], c: &[u8], d: &[u8], e: &[u8]) -> Line
+#[tactic(auto, unfolding(crate::specs::Lines::five))]
+fn of_five(a: &[u8], b: &[u8], c: &[u8], d: &[u8], e: &[u8]) -> Option<Field>
     ensures { result ≡ five a.now b.now c.now d.now e.now }
 {
     if is_name(c, b"TRADE") {
@@ -157,36 +138,36 @@ fn of_five(a: &[u8], b: &[u8], c: &[u8], d: &[u8], e: &[u8]) -> Line
     if is_name(c, b"QUOTE") {
         return quote_in(a, b, d, e);
     }
-    Line::Malformed
+    None
 }
 
-// The field that a line says.
-pub fn read_line(s: &[u8]) -> Line
+// The field that a line says, its values not yet judged; or the line is malformed, or names what there is not.
+pub fn read_line(s: &[u8]) -> Option<Field>
     ensures { result ≡ field_in s.now }
 {
-    let a = end_of(s, 0, 44);
+    let a = end_of(s, 0, b',');
     if s.len() <= a {
-        return Line::Malformed;
+        return None;
     }
     let a1 = a + 1;
-    let b = end_of(s, a1, 44);
+    let b = end_of(s, a1, b',');
     if s.len() <= b {
-        return Line::Malformed;
+        return None;
     }
     let b1 = b + 1;
-    let c = end_of(s, b1, 44);
+    let c = end_of(s, b1, b',');
     if s.len() <= c {
         return of_three(&s[..a], &s[a1..b], &s[b1..c]);
     }
     let c1 = c + 1;
-    let d = end_of(s, c1, 44);
+    let d = end_of(s, c1, b',');
     if s.len() <= d {
         return of_four(&s[..a], &s[a1..b], &s[b1..c], &s[c1..d]);
     }
     let d1 = d + 1;
-    let e = end_of(s, d1, 44);
+    let e = end_of(s, d1, b',');
     if s.len() <= e {
         return of_five(&s[..a], &s[a1..b], &s[b1..c], &s[c1..d], &s[d1..e]);
     }
-    Line::Malformed
+    None
 }

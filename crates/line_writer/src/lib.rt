@@ -1,7 +1,7 @@
 // A field's line, with its line feed, at a place of a lent buffer, item by item. Hosts do not call it: it asks that the buffer has room for the line.
 #![tactic(auto)]
 
-ghost use Rattle.std.specs.Prelude.{◌≡◌, ◌∷◌, ◌++◌, ◌+◌, ◌≤◌, length, take};
+ghost use Rattle.std.specs.Prelude.{◌≡◌, ◌∷◌, ◌++◌, ◌+◌, ◌≤◌, length};
 ghost use Rattle.text.specs.Over.{over};
 ghost use Rattle.text.specs.Decimal.{decimal};
 ghost use Rattle.dollars.specs.Dollars.{amount, sign_of, price_text};
@@ -13,8 +13,8 @@ ghost use Rattle.field.specs.declared.Field.TheVariants as F;
 ghost use Rattle.text.specs.laws.Putting.{Puts};
 
 use field::{Field, Form, Price};
-use names::{Name, instrument_name, metal_name};
-use text::{Put, put_bytes};
+use names::{instrument_name, metal_name};
+use text::put_bytes;
 
 // A lent buffer, and the place in it that the next bytes go to.
 #[derive(Drop)]
@@ -29,7 +29,7 @@ impl<'a> Line<'a> {
         ensures buffer { self.new.buf.ghost_name ≡ self.old.buf.ghost_name }
         ensures puts { Puts self.old.buf.now self.old.at s.now self.new.at self.new.buf.now }
     {
-        if let Put::Next(next) = put_bytes(self.buf, self.at, s) {
+        if let Some(next) = put_bytes(self.buf, self.at, s) {
             self.at = next;
         }
     }
@@ -85,29 +85,18 @@ impl<'a> Line<'a> {
         }
     }
 
-    // A name that is held by value.
-    fn name(&mut self, name: Name)
-        requires { name.len ≤ 9 }
-        ensures buffer { self.new.buf.ghost_name ≡ self.old.buf.ghost_name }
-        ensures puts { Puts self.old.buf.now self.old.at (take name.len name.bytes) self.new.at self.new.buf.now }
-    {
-        let store = name.bytes;
-        let len = name.len;
-        self.put(&store[..len]);
-    }
-
     fn metal(&mut self, metal: u8)
         ensures buffer { self.new.buf.ghost_name ≡ self.old.buf.ghost_name }
         ensures puts { Puts self.old.buf.now self.old.at (metal_name metal) self.new.at self.new.buf.now }
     {
-        self.name(metal_name(metal));
+        self.put(metal_name(metal));
     }
 
     fn instrument(&mut self, instrument: u8)
         ensures buffer { self.new.buf.ghost_name ≡ self.old.buf.ghost_name }
         ensures puts { Puts self.old.buf.now self.old.at (instrument_name instrument) self.new.at self.new.buf.now }
     {
-        self.name(instrument_name(instrument));
+        self.put(instrument_name(instrument));
     }
 
     // What a header's form puts behind its marks: a long one's third value.

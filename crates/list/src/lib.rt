@@ -12,35 +12,35 @@ use list_lines::{put_lines, put_refusal};
 use names::put_metal;
 use price_rules::Closed;
 use six_answers::closings;
-use text::{Put, Text};
+use text::Text;
 
 // How many bytes a sheet that is listed may have.
 pub const LONGEST: usize = 65_536;
 
 // The list of a sheet's answers.
-fn answers_text(closed: Closed) -> Text
+fn answers_text(closed: Closed) -> Option<Text>
     ensures { held result ≡ Has (list_text (closed_says closed)) }
 {
     let t = Text::empty();
     match closed {
-        Closed::Six(day, answers) => put_lines(put_metal(t, day.metal).put(b"\n"), answers),
+        Closed::Six(day, answers) => put_lines(put_metal(t, day.metal)?.put(b"\n")?, answers),
         Closed::Refused(number, at) => put_refusal(t, number, at as u64),
     }
 }
 
 // The list of a sheet.
-fn sheet_text(sheet: &[u8]) -> Text
+fn sheet_text(sheet: &[u8]) -> Option<Text>
     ensures { held result ≡ Has (list_of sheet.now) }
 {
     if LONGEST < sheet.len() {
-        return Text::empty().put(b"too long").put(b"\n");
+        return Text::empty().put(b"too long\n");
     }
     answers_text(closings(sheet))
 }
 
 // The list of a sheet into the buffer, whole or not at all: the place behind it is its length.
-pub fn closing_list(sheet: &[u8], out: &mut [u8]) -> Put
+pub fn closing_list(sheet: &[u8], out: &mut [u8]) -> Option<usize>
     ensures { (result ≡ put_place out.old 0 (list_of sheet.now)) × (out.new ≡ put_buffer out.old 0 (list_of sheet.now)) }
 {
-    sheet_text(sheet).put_into(out, 0)
+    sheet_text(sheet)?.put_into(out, 0)
 }

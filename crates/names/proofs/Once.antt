@@ -24,16 +24,16 @@ use Rattle.names.proofs.metal_in.Kinds as metal-inK
 use Rattle.names.proofs.instrument_in.Reads as instrument-in
 use Rattle.names.proofs.instrument_in.Kinds as instrument-inK
 
-pub metal-name-once : Once 0 metal-nameK.ps metal-nameK.r metal-name.Post (λ κs x s. x)
+pub metal-name-once : Once 1 metal-nameK.ps metal-nameK.r metal-name.Post (λ κs x s. x.now)
 metal-name-once κs a x y s t p q = once p q
 
-pub contract-name-once : Once 0 contract-nameK.ps contract-nameK.r contract-name.Post (λ κs x s. x)
+pub contract-name-once : Once 1 contract-nameK.ps contract-nameK.r contract-name.Post (λ κs x s. x.now)
 contract-name-once κs a x y s t p q = once p q
 
-pub instrument-name-once : Once 0 instrument-nameK.ps instrument-nameK.r instrument-name.Post (λ κs x s. x)
+pub instrument-name-once : Once 1 instrument-nameK.ps instrument-nameK.r instrument-name.Post (λ κs x s. x.now)
 instrument-name-once κs a x y s t p q = once p q
 
-pub method-name-once : Once 0 method-nameK.ps method-nameK.r method-name.Post (λ κs x s. x)
+pub method-name-once : Once 1 method-nameK.ps method-nameK.r method-name.Post (λ κs x s. x.now)
 method-name-once κs a x y s t p q = once p q
 
 pub put-metal-once : Once 0 put-metalK.ps put-metalK.r put-metal.Post (λ κs x s. held x)

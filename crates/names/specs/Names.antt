@@ -1,11 +1,8 @@
 -- RULES 10 and TAPE 3: the names on the closing list and on the tape, as they are printed, and the number of a name.
-use Rattle.std.specs.Prelude.{ℕ, zero, suc, ◌-◌, Bool, true, false, cond, List, [], ◌∷◌, ◌++◌, eqb, length, get_or, replicate}
+use Rattle.std.specs.Prelude.{ℕ, zero, suc, Bool, true, false, cond, List, [], ◌∷◌, eqb, get_or, Option, Some, None}
 use Rattle.text.specs.Ascii.{ascii}
-use Rattle.numerals.specs.declared.Number.{Number}
-use Rattle.numerals.specs.declared.Number.TheVariants.{Value, Malformed}
 use Rattle.price_rules.specs.declared.Method.{Method}
 use Rattle.price_rules.specs.declared.Method.TheVariants.{Vwap, Twap}
-use Rattle.names.specs.declared.Name.{Name}
 
 -- the metals, 1 to 5
 abbrev pub metal_names : List (List ℕ)
@@ -57,19 +54,13 @@ same (a ∷ name) [] = false
 same (a ∷ name) (b ∷ s) = cond (eqb b a) (same name s) false
 
 -- the number of the first of the names that s is; the first name has the number k
-abbrev pub number_of : List ℕ → List (List ℕ) → ℕ → Number
-number_of s [] k = Malformed
-number_of s (name ∷ names) k = cond (same name s) (Value k) (number_of s names (suc k))
+abbrev pub number_of : List ℕ → List (List ℕ) → ℕ → Option ℕ
+number_of s [] k = None
+number_of s (name ∷ names) k = cond (same name s) (Some k) (number_of s names (suc k))
 
 -- a metal's number, counted from 1, and an instrument's, counted from 0
-unfoldable pub metal_in : List ℕ → Number
+unfoldable pub metal_in : List ℕ → Option ℕ
 metal_in s = number_of s metal_names 1
 
-unfoldable pub instrument_in : List ℕ → Number
+unfoldable pub instrument_in : List ℕ → Option ℕ
 instrument_in s = number_of s instrument_names 0
-
--- ---- what each answer of the code says
-
--- a name by value: its bytes, and spaces behind them up to nine
-abbrev pub in_name : List ℕ → Name
-in_name s = record { bytes = s ++ replicate (9 - length s) 32; len = length s }

@@ -1,161 +1,118 @@
-// The names on the closing list and on the tape, fixed byte strings: each by value, put behind a text, and found by its bytes.
+// The names on the closing list and on the tape, fixed byte strings: each by its number, put behind a text, and found by its bytes.
 #![tactic(auto)]
 
-ghost use Rattle.std.specs.Prelude.{◌≡◌, ◌≤◌, length, take};
-ghost use Rattle.text.specs.Held.{held, ◌⊕◌};
-ghost use Rattle.names.specs.Names.{metal_name, contract_name, instrument_name, method_name, same, metal_in, instrument_in, in_name};
+ghost use Rattle.std.specs.Prelude.{◌≡◌, ◌≤◌};
+ghost use Rattle.text.specs.Held.{Has, held, ◌⊕◌};
+ghost use Rattle.names.specs.Names.{metal_name, contract_name, instrument_name, method_name, same, metal_in, instrument_in};
 
-use numerals::Number;
 use price_rules::Method;
 use text::Text;
 
-// A name by value: its bytes, and spaces behind them.
-#[derive(Clone, Copy)]
-pub struct Name {
-    pub bytes: [u8; 9],
-    pub len: usize,
-}
-
-fn named(s: &[u8]) -> Name
-    requires { length s.now ≤ 9 }
-    ensures { result ≡ in_name s.now }
-{
-    let mut store = [32u8; 9];
-    store[..s.len()].copy_from_slice(s);
-    Name {
-        bytes: store,
-        len: s.len(),
-    }
-}
-
 // The name of a metal, 1 to 5; no bytes for any other.
-pub fn metal_name(metal: u8) -> Name
-    ensures { result ≡ in_name (metal_name metal) }
+#[tactic(auto, unfolding(crate::specs::Names::metal_name))]
+pub fn metal_name(metal: u8) -> &'static [u8]
+    ensures { result.now ≡ metal_name metal }
 {
     match metal {
-        1 => named(b"Nickel"),
-        2 => named(b"Aluminium"),
-        3 => named(b"Zinc"),
-        4 => named(b"Copper"),
-        5 => named(b"Lead"),
-        _ => named(b""),
+        1 => b"Nickel",
+        2 => b"Aluminium",
+        3 => b"Zinc",
+        4 => b"Copper",
+        5 => b"Lead",
+        _ => b"",
     }
 }
 
 // The name of a contract, 0 to 5 in pricing order; no bytes for any other.
-pub fn contract_name(contract: usize) -> Name
-    ensures { result ≡ in_name (contract_name contract) }
+#[tactic(auto, unfolding(crate::specs::Names::contract_name))]
+pub fn contract_name(contract: usize) -> &'static [u8]
+    ensures { result.now ≡ contract_name contract }
 {
     match contract {
-        0 => named(b"3M"),
-        1 => named(b"M3"),
-        2 => named(b"M2"),
-        3 => named(b"M4"),
-        4 => named(b"M1"),
-        5 => named(b"Cash"),
-        _ => named(b""),
+        0 => b"3M",
+        1 => b"M3",
+        2 => b"M2",
+        3 => b"M4",
+        4 => b"M1",
+        5 => b"Cash",
+        _ => b"",
     }
 }
 
 // The name of an instrument, 0 to 11; no bytes for any other.
-pub fn instrument_name(instrument: u8) -> Name
-    ensures { result ≡ in_name (instrument_name instrument) }
+#[tactic(auto, unfolding(crate::specs::Names::instrument_name))]
+pub fn instrument_name(instrument: u8) -> &'static [u8]
+    ensures { result.now ≡ instrument_name instrument }
 {
     match instrument {
-        0 => named(b"3M"),
-        1 => named(b"M3-3M"),
-        2 => named(b"M2-3M"),
-        3 => named(b"M2-M3"),
-        4 => named(b"M2-M4"),
-        5 => named(b"M3-M4"),
-        6 => named(b"3M-M4"),
-        7 => named(b"M1-M2"),
-        8 => named(b"M1-M3"),
-        9 => named(b"M1-3M"),
-        10 => named(b"M1-M4"),
-        11 => named(b"Cash-M1"),
-        _ => named(b""),
+        0 => b"3M",
+        1 => b"M3-3M",
+        2 => b"M2-3M",
+        3 => b"M2-M3",
+        4 => b"M2-M4",
+        5 => b"M3-M4",
+        6 => b"3M-M4",
+        7 => b"M1-M2",
+        8 => b"M1-M3",
+        9 => b"M1-3M",
+        10 => b"M1-M4",
+        11 => b"Cash-M1",
+        _ => b"",
     }
 }
 
 // The name of a method.
-pub fn method_name(method: Method) -> Name
-    ensures { result ≡ in_name (method_name method) }
+pub fn method_name(method: Method) -> &'static [u8]
+    ensures { result.now ≡ method_name method }
 {
     match method {
-        Method::Vwap => named(b"VWAP"),
-        Method::Twap => named(b"TWAP"),
+        Method::Vwap => b"VWAP",
+        Method::Twap => b"TWAP",
     }
 }
 
-// A name behind a text.
-fn put_name(t: Text, name: Name) -> Text
-    requires { name.len ≤ 9 }
-    ensures { held result ≡ held t ⊕ take name.len name.bytes }
+// Each of these three puts a name behind a text, where it fits.
+pub fn put_metal(t: Text, metal: u8) -> Option<Text>
+    ensures { held result ≡ Has t ⊕ metal_name metal }
 {
-    let store = name.bytes;
-    let len = name.len;
-    t.put(&store[..len])
+    t.put(metal_name(metal))
 }
 
-// Each of these three puts a name behind a text.
-pub fn put_metal(t: Text, metal: u8) -> Text
-    ensures { held result ≡ held t ⊕ metal_name metal }
+pub fn put_contract(t: Text, contract: usize) -> Option<Text>
+    ensures { held result ≡ Has t ⊕ contract_name contract }
 {
-    put_name(t, metal_name(metal))
+    t.put(contract_name(contract))
 }
 
-pub fn put_contract(t: Text, contract: usize) -> Text
-    ensures { held result ≡ held t ⊕ contract_name contract }
+pub fn put_method(t: Text, method: Method) -> Option<Text>
+    ensures { held result ≡ Has t ⊕ method_name method }
 {
-    put_name(t, contract_name(contract))
+    t.put(method_name(method))
 }
 
-pub fn put_method(t: Text, method: Method) -> Text
-    ensures { held result ≡ held t ⊕ method_name method }
-{
-    put_name(t, method_name(method))
-}
-
-// The bytes are the name.
+// The bytes are the name. Byte after byte and not by `==`: a tape's names are short, and the library's comparison, which is made for long runs
+// of bytes and is never inlined, makes a text's sheet slower.
 pub fn is_name(s: &[u8], name: &[u8]) -> bool
     ensures { result ≡ same name.now s.now }
 {
     if s.len() != name.len() {
         return false;
     }
-    let mut i = 0;
-    while i < s.len() {
+    for i in 0..s.len() {
         if s[i] != name[i] {
             return false;
         }
-        i += 1;
     }
     true
 }
 
-// The bytes are a name that is held by value.
-fn is_held(s: &[u8], name: Name) -> bool
-    requires { name.len ≤ 9 }
-    ensures { result ≡ same (take name.len name.bytes) s.now }
-{
-    let store = name.bytes;
-    let len = name.len;
-    is_name(s, &store[..len])
-}
-
 // A metal's number, 1 to 5, by its name.
-pub fn metal_in(s: &[u8]) -> Number
+pub fn metal_in(s: &[u8]) -> Option<u32>
     ensures { result ≡ metal_in s.now }
 {
-    let mut metal: u8 = 1;
-    while metal <= 5 {
-        if is_held(s, metal_name(metal)) {
-            return Number::Value(metal as u32);
-        }
-        metal += 1;
-    }
-    Number::Malformed
+    (1..6u8)
+        .find(|metal| is_name(s, metal_name(*metal)))
+        .map(u32::from)
 }
 
 // The one instrument with a name of five bytes that can have these for its second and its last: divided by 8, 1, 2, 3 and M leave 1, 2, 3 and 5,
@@ -180,32 +137,27 @@ fn likely_spread(second: u8, last: u8) -> u8
 }
 
 // An instrument's number, 0 to 11, by its name: name after name.
-fn seek_instrument(s: &[u8]) -> Number
+fn seek_instrument(s: &[u8]) -> Option<u32>
     ensures { result ≡ instrument_in s.now }
 {
-    let mut instrument: u8 = 0;
-    while instrument <= 11 {
-        if is_held(s, instrument_name(instrument)) {
-            return Number::Value(instrument as u32);
-        }
-        instrument += 1;
-    }
-    Number::Malformed
+    (0..12u8)
+        .find(|instrument| is_name(s, instrument_name(*instrument)))
+        .map(u32::from)
 }
 
 // The same, with the likely one asked first.
-pub fn instrument_in(s: &[u8]) -> Number
+pub fn instrument_in(s: &[u8]) -> Option<u32>
     ensures { result ≡ instrument_in s.now }
 {
     if s.len() == 5 {
         let spread = likely_spread(s[1], s[4]);
-        if is_held(s, instrument_name(spread)) {
-            return Number::Value(spread as u32);
+        if is_name(s, instrument_name(spread)) {
+            return Some(spread as u32);
         }
     }
     if s.len() == 7 {
-        if is_held(s, instrument_name(11)) {
-            return Number::Value(11);
+        if is_name(s, instrument_name(11)) {
+            return Some(11);
         }
     }
     seek_instrument(s)

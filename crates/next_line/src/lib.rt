@@ -2,166 +2,94 @@
 // call it. A trade or a quote that stands there just as it is written is recognised by one look at its bytes; every other line `line_reader` reads.
 #![tactic(auto)]
 
-ghost use Rattle.std.specs.Prelude.{◌≡◌, ◌+◌, ◌^◌, ◌<◌, ◌≤◌, [], ◌∷◌, length, unsigned_abs};
+ghost use Rattle.std.specs.Prelude.{◌≡◌, ◌+◌, ◌^◌, ◌<◌, ◌≤◌, [], ◌∷◌, length, unsigned_abs, IfSome};
 ghost use Rattle.text.specs.Decimal.{decimal};
 ghost use Rattle.dollars.specs.Dollars.{amount, price_text, priced};
 ghost use Rattle.names.specs.Names.{instrument_name};
 ghost use Rattle.next_line.specs.laws.Standing.{Digit-at, Found, Near};
-ghost use Rattle.next_line.specs.laws.Records.{signed_as, behind_sign, negative_zero, Side-found, Stamp-found, Trade-found, Quote-found, Record-found};
+ghost use Rattle.next_line.specs.laws.Records.{signed_as, behind_sign, negative_zero, Side-found, Stamp-found, Trade-is, Quote-is, Record-is};
 ghost use Rattle.next_line.specs.laws.Next.{next_line};
 
 use field::layout::remaining;
 use field::{Field, Price};
 use items::end_of;
-use line_reader::{Line, read_line};
+use line_reader::{read_line, side_price, sides_of};
 use names::{instrument_in, is_name};
-use numerals::Number;
 
-// The field of the line and the place behind its line feed; or the line is malformed; or no line feed follows.
-#[derive(Clone, Copy)]
-pub enum NextLine {
-    Field(Field, usize),
-    Malformed,
-    Last,
-}
+// A line that is no field's.
+#[derive(Clone, Copy, Debug, PartialEq, Eq)]
+pub struct Malformed;
 
-// Each of these holds what stands at a place, and the place behind it: 0 where it does not stand there.
-#[derive(Clone, Copy)]
-pub struct NumberAt {
-    pub value: u32,
-    pub next: usize,
-}
+// Each of these functions gives what stands at a place, and the place behind it; or none, where it does not stand there.
 
-#[derive(Clone, Copy)]
-pub struct InstrumentAt {
-    pub instrument: u8,
-    pub next: usize,
-}
-
-#[derive(Clone, Copy)]
-pub struct PriceAt {
-    pub price: Price,
-    pub next: usize,
-}
-
-// bit is 1 for a side that is there, 0 for a dash.
-#[derive(Clone, Copy)]
-pub struct SideAt {
-    pub bit: u8,
-    pub price: Price,
-    pub next: usize,
-}
-
-// What trades and quotes begin with.
-#[derive(Clone, Copy)]
-pub struct StampAt {
-    pub time: u32,
-    pub instrument: u8,
-    pub next: usize,
-}
-
-#[derive(Clone, Copy)]
-pub struct RecordAt {
-    pub field: Field,
-    pub next: usize,
-}
-
-fn wide(b: u8) -> u32
-    ensures { result ≡ b }
-{
-    b as u32
-}
-
-// What the digit at a place says; more than 9 where no digit stands there.
-fn digit_at(s: &[u8], at: usize) -> u32
+// What the digit at a place says.
+fn digit_at(s: &[u8], at: usize) -> Option<u32>
     requires { at < length s.now }
-    ensures { Digit-at s.now at result }
+    ensures { IfSome result (λ d. Digit-at s.now at d) }
 {
-    std::num::wrapping_sub_u32(wide(s[at]), 48)
+    let digit = u32::from(s[at]).wrapping_sub(48);
+    if digit <= 9 { Some(digit) } else { None }
 }
 
-// A byte, at a place of the text.
-fn byte_at(s: &[u8], at: usize, byte: u8) -> usize
+// A byte.
+fn byte_at(s: &[u8], at: usize, byte: u8) -> Option<usize>
     requires { at < length s.now }
-    ensures { Found s.now at 1 (byte ∷ []) result }
+    ensures { IfSome result (λ next. Found s.now at 1 (byte ∷ []) next) }
 {
-    if s[at] == byte { at + 1 } else { 0 }
+    if s[at] == byte { Some(at + 1) } else { None }
 }
 
 // Bytes that are the word.
-fn word_at(s: &[u8], at: usize, word: &[u8]) -> usize
+fn word_at(s: &[u8], at: usize, word: &[u8]) -> Option<usize>
     requires { at + length word.now ≤ length s.now }
-    ensures { Found s.now at (length word.now) word.now result }
+    ensures { IfSome result (λ next. Found s.now at (length word.now) word.now next) }
 {
     let next = at + word.len();
-    if is_name(&s[at..next], word) { next } else { 0 }
+    if is_name(&s[at..next], word) {
+        Some(next)
+    } else {
+        None
+    }
 }
 
 // A number, in at most nine digits. The loop's end is a constant, so that the compiler writes its turns out.
-fn number_at(s: &[u8], at: usize) -> NumberAt
+fn number_at(s: &[u8], at: usize) -> Option<(u32, usize)>
     requires { at + 9 ≤ length s.now }
-    ensures { Found s.now at 9 (decimal result.value) result.next × (result.value ≤ 999999999) }
+    ensures { IfSome result (λ r. Found s.now at 9 (decimal r.0) r.1 × (r.0 ≤ 999999999)) }
 {
-    let first = digit_at(s, at);
-    if 9 < first {
-        return NumberAt { value: 0, next: 0 };
-    }
+    let first = digit_at(s, at)?;
     if first == 0 {
-        return NumberAt {
-            value: 0,
-            next: at + 1,
-        };
+        return Some((0, at + 1));
     }
     let mut n = first;
-    let mut k = 1;
-    while k < 9 {
-        let d = digit_at(s, at + k);
-        if 9 < d {
-            return NumberAt {
-                value: n,
-                next: at + k,
-            };
-        }
+    for k in 1..9 {
+        let Some(d) = digit_at(s, at + k) else {
+            return Some((n, at + k));
+        };
         n = n * 10 + d;
-        k += 1;
     }
-    NumberAt {
-        value: n,
-        next: at + 9,
-    }
+    Some((n, at + 9))
 }
 
 // Dollars with two decimals and no sign, in cents.
-fn amount_at(s: &[u8], at: usize) -> NumberAt
+fn amount_at(s: &[u8], at: usize) -> Option<(u32, usize)>
     requires { at + 12 ≤ length s.now }
-    ensures { Found s.now at 12 (amount result.value) result.next × (result.value ≤ 999999999) }
+    ensures { IfSome result (λ r. Found s.now at 12 (amount r.0) r.1 × (r.0 ≤ 999999999)) }
 {
-    let dollars = number_at(s, at);
-    let point = dollars.next;
-    if point == 0 {
-        return NumberAt { value: 0, next: 0 };
+    let (dollars, point) = number_at(s, at)?;
+    if 9_999_999 < dollars {
+        return None;
     }
-    if 9_999_999 < dollars.value {
-        return NumberAt { value: 0, next: 0 };
+    if s[point] != b'.' {
+        return None;
     }
-    if s[point] != 46 {
-        return NumberAt { value: 0, next: 0 };
-    }
-    let tens = digit_at(s, point + 1);
-    if 9 < tens {
-        return NumberAt { value: 0, next: 0 };
-    }
-    let units = digit_at(s, point + 2);
-    if 9 < units {
-        return NumberAt { value: 0, next: 0 };
-    }
-    NumberAt {
-        value: dollars.value * 100 + (tens * 10 + units),
-        next: point + 3,
-    }
+    let tens = digit_at(s, point + 1)?;
+    let units = digit_at(s, point + 2)?;
+    Some((dollars * 100 + (tens * 10 + units), point + 3))
 }
 
 // A number of cents with its sign.
+#[tactic(auto, unfolding(crate::specs::laws::Records::signed_as))]
 fn signed(minus: bool, value: u32) -> Price
     requires { value ≤ 999999999 }
     ensures { result ≡ priced (signed_as minus value) }
@@ -175,6 +103,7 @@ fn signed(minus: bool, value: u32) -> Price
 }
 
 // Where the digits behind a sign start.
+#[tactic(auto, unfolding(crate::specs::laws::Records::behind_sign))]
 fn behind_sign(at: usize, minus: bool) -> usize
     requires { at < 2 ^ 63 }
     ensures { result ≡ behind_sign at minus }
@@ -182,6 +111,7 @@ fn behind_sign(at: usize, minus: bool) -> usize
     if minus { at + 1 } else { at }
 }
 
+#[tactic(auto, unfolding(crate::specs::laws::Records::negative_zero))]
 fn negative_zero(minus: bool, value: u32) -> bool
     ensures { result ≡ negative_zero minus value }
 {
@@ -189,45 +119,28 @@ fn negative_zero(minus: bool, value: u32) -> bool
 }
 
 // A price. Its sign moves the place of its digits and is no branch: a processor guesses wrong where prices above and below zero take turns.
-fn price_at(s: &[u8], at: usize) -> PriceAt
+fn price_at(s: &[u8], at: usize) -> Option<(Price, usize)>
     requires { at + 13 ≤ length s.now }
-    ensures { Found s.now at 13 (price_text result.price.cents) result.next × (unsigned_abs result.price.cents ≤ 999999999) }
+    ensures { IfSome result (λ r. Found s.now at 13 (price_text r.0.cents) r.1 × (unsigned_abs r.0.cents ≤ 999999999)) }
 {
-    let minus = s[at] == 45;
-    let found = amount_at(s, behind_sign(at, minus));
-    if negative_zero(minus, found.value) {
-        return PriceAt {
-            price: Price { cents: 0 },
-            next: 0,
-        };
+    let minus = s[at] == b'-';
+    let (value, next) = amount_at(s, behind_sign(at, minus))?;
+    if negative_zero(minus, value) {
+        return None;
     }
-    let price = signed(minus, found.value);
-    PriceAt {
-        price,
-        next: found.next,
-    }
+    Some((signed(minus, value), next))
 }
 
 // A side of a quote: a price, or a dash.
-fn side_at(s: &[u8], at: usize) -> SideAt
+fn side_at(s: &[u8], at: usize) -> Option<(Option<Price>, usize)>
     requires { at + 13 ≤ length s.now }
-    ensures { Side-found s.now at result }
+    ensures { IfSome result (λ r. Side-found s.now at r.0 r.1) }
 {
-    let found = price_at(s, at);
-    if found.next != 0 {
-        let price = found.price;
-        return SideAt {
-            bit: 1,
-            price,
-            next: found.next,
-        };
+    if let Some((price, next)) = price_at(s, at) {
+        return Some((Some(price), next));
     }
-    let dash = byte_at(s, at, 45);
-    SideAt {
-        bit: 0,
-        price: Price { cents: 0 },
-        next: dash,
-    }
+    let next = byte_at(s, at, b'-')?;
+    Some((None, next))
 }
 
 // Where the name of an instrument can end: names have five bytes, or two, or seven.
@@ -235,171 +148,101 @@ fn name_end(s: &[u8], at: usize) -> usize
     requires { at + 7 ≤ length s.now }
     ensures { Near at 7 result }
 {
-    if s[at + 5] == 44 {
+    if s[at + 5] == b',' {
         return at + 5;
     }
-    if s[at + 2] == 44 { at + 2 } else { at + 7 }
+    if s[at + 2] == b',' { at + 2 } else { at + 7 }
 }
 
 // The name of an instrument.
-fn instrument_at(s: &[u8], at: usize) -> InstrumentAt
+fn instrument_at(s: &[u8], at: usize) -> Option<(u8, usize)>
     requires { at + 7 ≤ length s.now }
-    ensures { Found s.now at 7 (instrument_name result.instrument) result.next × (result.instrument ≤ 11) }
+    ensures { IfSome result (λ r. Found s.now at 7 (instrument_name r.0) r.1 × (r.0 ≤ 11)) }
 {
     let next = name_end(s, at);
-    match instrument_in(&s[at..next]) {
-        Number::Value(instrument) => InstrumentAt {
-            instrument: instrument as u8,
-            next,
-        },
-        Number::Malformed => InstrumentAt {
-            instrument: 0,
-            next: 0,
-        },
-    }
+    let instrument = instrument_in(&s[at..next])?;
+    Some((instrument as u8, next))
 }
 
-// The two items that trades and quotes begin with.
-fn stamp_at(s: &[u8], at: usize) -> StampAt
+// What trades and quotes begin with: their time and their instrument.
+fn stamp_at(s: &[u8], at: usize) -> Option<(u32, u8, usize)>
     requires { at + 17 ≤ length s.now }
-    ensures { Stamp-found s.now at result }
+    ensures { IfSome result (λ r. Stamp-found s.now at r.0 r.1 r.2) }
 {
-    let time = number_at(s, at);
-    if time.next == 0 {
-        return StampAt {
-            time: 0,
-            instrument: 0,
-            next: 0,
-        };
-    }
-    let comma = byte_at(s, time.next, 44);
-    if comma == 0 {
-        return StampAt {
-            time: 0,
-            instrument: 0,
-            next: 0,
-        };
-    }
-    let name = instrument_at(s, comma);
-    StampAt {
-        time: time.value,
-        instrument: name.instrument,
-        next: name.next,
-    }
-}
-
-// No trade and no quote.
-fn no_record() -> RecordAt
-    ensures { result.next ≡ 0 }
-{
-    RecordAt {
-        field: Field::End { count: 0 },
-        next: 0,
-    }
+    let (time, comma) = number_at(s, at)?;
+    let name = byte_at(s, comma, b',')?;
+    let (instrument, next) = instrument_at(s, name)?;
+    Some((time, instrument, next))
 }
 
 // A trade's line from its price on.
-fn trade_at(s: &[u8], at: usize, time: u32, instrument: u8) -> RecordAt
+fn trade_at(s: &[u8], at: usize, time: u32, instrument: u8) -> Option<(Field, usize)>
     requires { at + 24 ≤ length s.now }
-    ensures { Trade-found s.now at time instrument result }
+    ensures { IfSome result (λ r. Trade-is s.now at time instrument r.0 r.1) }
 {
-    let price = price_at(s, at);
-    if price.next == 0 {
-        return no_record();
+    let (price, comma) = price_at(s, at)?;
+    let number = byte_at(s, comma, b',')?;
+    let (lots, end) = number_at(s, number)?;
+    if 65_535 < lots {
+        return None;
     }
-    let comma = byte_at(s, price.next, 44);
-    if comma == 0 {
-        return no_record();
-    }
-    let lots = number_at(s, comma);
-    if lots.next == 0 {
-        return no_record();
-    }
-    if 65_535 < lots.value {
-        return no_record();
-    }
-    let next = byte_at(s, lots.next, 10);
-    let cents = price.price;
-    RecordAt {
-        field: Field::Trade {
-            time,
-            instrument,
-            price: cents,
-            lots: lots.value as u16,
-        },
-        next,
-    }
+    let next = byte_at(s, end, b'\n')?;
+    let field = Field::Trade {
+        time,
+        instrument,
+        price,
+        lots: lots as u16,
+    };
+    Some((field, next))
 }
 
 // A quote's line from its bid on.
-fn quote_at(s: &[u8], at: usize, time: u32, instrument: u8) -> RecordAt
+fn quote_at(s: &[u8], at: usize, time: u32, instrument: u8) -> Option<(Field, usize)>
     requires { at + 28 ≤ length s.now }
-    ensures { Quote-found s.now at time instrument result }
+    ensures { IfSome result (λ r. Quote-is s.now at time instrument r.0 r.1) }
 {
-    let bid = side_at(s, at);
-    if bid.next == 0 {
-        return no_record();
-    }
-    let comma = byte_at(s, bid.next, 44);
-    if comma == 0 {
-        return no_record();
-    }
-    let offer = side_at(s, comma);
-    if offer.next == 0 {
-        return no_record();
-    }
-    let next = byte_at(s, offer.next, 10);
-    let low = bid.price;
-    let high = offer.price;
-    RecordAt {
-        field: Field::Quote {
-            time,
-            instrument,
-            sides: bid.bit + 2 * offer.bit,
-            bid: low,
-            offer: high,
-        },
-        next,
-    }
+    let (bid, comma) = side_at(s, at)?;
+    let side = byte_at(s, comma, b',')?;
+    let (offer, feed) = side_at(s, side)?;
+    let next = byte_at(s, feed, b'\n')?;
+    let field = Field::Quote {
+        time,
+        instrument,
+        sides: sides_of(bid, offer),
+        bid: side_price(bid),
+        offer: side_price(offer),
+    };
+    Some((field, next))
 }
 
 // The line of a trade or a quote. Where 52 bytes are left, no piece of one reaches past the end of the text.
-fn record_at(s: &[u8], at: usize) -> RecordAt
-    ensures { Record-found s.now at result }
+fn record_at(s: &[u8], at: usize) -> Option<(Field, usize)>
+    ensures { IfSome result (λ r. Record-is s.now at r.0 r.1) }
 {
     if remaining(s.len(), at) < 52 {
-        return no_record();
+        return None;
     }
-    let stamp = stamp_at(s, at);
-    if stamp.next == 0 {
-        return no_record();
+    let (time, instrument, word) = stamp_at(s, at)?;
+    if let Some(price) = word_at(s, word, b",TRADE,") {
+        return trade_at(s, price, time, instrument);
     }
-    let trade = word_at(s, stamp.next, b",TRADE,");
-    if trade != 0 {
-        return trade_at(s, trade, stamp.time, stamp.instrument);
-    }
-    let quote = word_at(s, stamp.next, b",QUOTE,");
-    if quote == 0 {
-        return no_record();
-    }
-    quote_at(s, quote, stamp.time, stamp.instrument)
+    let bid = word_at(s, word, b",QUOTE,")?;
+    quote_at(s, bid, time, instrument)
 }
 
-// The line at a place.
-pub fn next_line(text: &[u8], at: usize) -> NextLine
+// The line at a place: its field and the place behind its line feed, none where no line feed follows; or the line is malformed.
+pub fn next_line(text: &[u8], at: usize) -> Result<Option<(Field, usize)>, Malformed>
     ensures { result ≡ next_line text.now at }
 {
-    let right = record_at(text, at);
-    if right.next != 0 {
-        let field = right.field;
-        return NextLine::Field(field, right.next);
+    if let Some(right) = record_at(text, at) {
+        return Ok(Some(right));
     }
-    let end = end_of(text, at, 10);
+    let end = end_of(text, at, b'\n');
     if text.len() <= end {
-        return NextLine::Last;
+        return Ok(None);
     }
     match read_line(&text[at..end]) {
-        Line::Field(field) => NextLine::Field(field, end + 1),
-        Line::Malformed => NextLine::Malformed,
+        Some(field) => Ok(Some((field, end + 1))),
+        None => Err(Malformed),
     }
 }

@@ -4,28 +4,23 @@
 ghost use Rattle.std.specs.Prelude.{◌≡◌, ◌-◌};
 ghost use Rattle.numerals.specs.Numerals.{is_digit, opens, risen, number};
 
-// The number, at most the given one; or these bytes are no number.
-#[derive(Clone, Copy)]
-pub enum Number {
-    Value(u32),
-    Malformed,
-}
-
 // The bytes 0 to 9.
+#[tactic(auto, unfolding(crate::specs::Numerals::is_digit))]
 pub fn is_digit(b: u8) -> bool
     ensures { result ≡ is_digit b }
 {
-    if b < 48 { false } else { b < 58 }
+    b.is_ascii_digit()
 }
 
 // What a digit's byte says; 0 for a byte below.
 pub fn digit_of(b: u8) -> u8
     ensures { result ≡ b - 48 }
 {
-    if b < 48 { 0 } else { b - 48 }
+    b.saturating_sub(b'0')
 }
 
 // The number with one digit more behind it, stopping at most.
+#[tactic(auto, unfolding(crate::specs::Numerals::risen))]
 fn risen_by(most: u32, n: u32, b: u8) -> u32
     ensures { result ≡ risen most n b }
 {
@@ -38,34 +33,30 @@ fn risen_by(most: u32, n: u32, b: u8) -> u32
 }
 
 // Some bytes, and a zero at the front only alone.
+#[tactic(auto, unfolding(crate::specs::Numerals::opens))]
 fn opens_right(s: &[u8]) -> bool
     ensures { result ≡ opens s.now }
 {
-    if s.len() == 0 {
-        return false;
+    match s {
+        [] => false,
+        [_] => true,
+        [first, ..] => *first != b'0',
     }
-    if s.len() == 1 {
-        return true;
-    }
-    s[0] != 48
 }
 
-// The number that the bytes say, stopping at most.
-pub fn read_number(s: &[u8], most: u32) -> Number
+// The number that the bytes say, stopping at most; or these bytes are no number.
+pub fn read_number(s: &[u8], most: u32) -> Option<u32>
     ensures { result ≡ number most s.now }
 {
     if !opens_right(s) {
-        return Number::Malformed;
+        return None;
     }
     let mut n: u32 = 0;
-    let mut i = 0;
-    while i < s.len() {
-        let b = s[i];
-        if !is_digit(b) {
-            return Number::Malformed;
+    for b in s {
+        if !is_digit(*b) {
+            return None;
         }
-        n = risen_by(most, n, b);
-        i += 1;
+        n = risen_by(most, n, *b);
     }
-    Number::Value(n)
+    Some(n)
 }

@@ -7,7 +7,7 @@ ghost use Rattle.std.specs.Prelude.{◌<◌, ◌^◌};
 use filled_buffer::Filled;
 use list_lines::put_refusal;
 use std::io::{Print, Read, Result};
-use text::{Put, Text};
+use text::Text;
 use whole_input::{read_full, room};
 
 // How many bytes a sheet may have.
@@ -29,12 +29,11 @@ pub fn write_part<P: Print>(file: &P, bytes: &[u8], n: usize) -> Result<()> {
     }
 }
 
-// A text to a file.
-pub fn say<P: Print>(file: &P, text: Text) -> Result<()> {
-    let mut out = [0u8; 512];
-    match text.put_into(&mut out, 0) {
-        Put::Next(n) => write_part(file, &out, n),
-        Put::Full => Ok(()),
+// A text to a file, where there is one.
+pub fn say<P: Print>(file: &P, text: Option<Text>) -> Result<()> {
+    match text {
+        Some(text) => file.write_all(text.as_bytes()),
+        None => Ok(()),
     }
 }
 

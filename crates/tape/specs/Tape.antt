@@ -1,5 +1,5 @@
 -- TAPE 5 and 6: the sheet of a text, and the text of a sheet.
-use Rattle.std.specs.Prelude.{ℕ, ◌+◌, cond, List, [], ◌∷◌, ◌++◌, eqb, leb, length}
+use Rattle.std.specs.Prelude.{ℕ, ◌+◌, cond, List, [], ◌∷◌, ◌++◌, eqb, leb, length, Option, Some, None}
 use Rattle.field.specs.declared.Field.{Field}
 use Rattle.field.specs.declared.Field.TheVariants as F
 use Rattle.admit.specs.declared.Progress.{Progress}
@@ -7,8 +7,6 @@ use Rattle.admit.specs.Admitting.{start, Step, goes, ends, stops, admit}
 use Rattle.sheet.specs.Fields.{fields_of, encode}
 use Rattle.sheet.specs.Judgement.{Verdict, judge_sheet}
 use Rattle.items.specs.Items.{first, rest}
-use Rattle.line_reader.specs.declared.Line.{Line}
-use Rattle.line_reader.specs.declared.Line.TheVariants as L
 use Rattle.line_reader.specs.Lines.{field_in, line_of}
 use Rattle.filled_buffer.specs.Filling.{Made, made, refused, of_sheet, within_limit, in_room}
 
@@ -36,9 +34,9 @@ onward line f ends later = bad 17 line
 onward line f (stops number) later = bad number line
 
 -- 17 before all: a line is read wholly, then placed
-unfoldable pub say_line : ℕ → Progress → Line → (Progress → LinesSay) → LinesSay
-say_line line p (L.Field f) later = onward line f (admit (capped p) f) later
-say_line line p L.Malformed later = bad 17 line
+unfoldable pub say_line : ℕ → Progress → Option Field → (Progress → LinesSay) → LinesSay
+say_line line p (Some f) later = onward line f (admit (capped p) f) later
+say_line line p None later = bad 17 line
 
 -- what stands behind the last line feed is no line: 17 where it is a byte or more. No METAL line at all: 5 at line 1
 unfoldable pub at_last : ℕ → Progress → ℕ → LinesSay

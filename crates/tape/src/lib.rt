@@ -9,7 +9,7 @@ ghost use Rattle.tape.specs.laws.Measuring.{grown, measured};
 use admit::{Admitted, Progress, admit, begin};
 use field::layout::{size_of, tag_of};
 use field::{Field, number};
-use next_line::{NextLine, next_line};
+use next_line::{Malformed, next_line};
 
 // A text that is accepted, with the bytes of its fields, which stop rising at one above the limit; or a number and a line.
 #[derive(Clone, Copy)]
@@ -66,13 +66,13 @@ pub fn judge_tape(text: &[u8]) -> Measured
     let mut progress = begin();
     loop {
         match next_line(text, at) {
-            NextLine::Last => {
+            Ok(None) => {
                 return at_last(text.len() - at, line, progress, bytes);
             }
-            NextLine::Malformed => {
+            Err(Malformed) => {
                 return Measured::Refused(number::LINE, line);
             }
-            NextLine::Field(field, next) => match admit(capped_at(progress), field) {
+            Ok(Some((field, next))) => match admit(capped_at(progress), field) {
                 Admitted::Refused(found) => {
                     return Measured::Refused(found, line);
                 }

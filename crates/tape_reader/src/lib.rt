@@ -11,7 +11,7 @@ ghost use Rattle.tape_reader.specs.laws.Laying.{Fitting, Laid_out, Sheeted};
 use field::layout::{size_of, tag_of};
 use field::{Field, number};
 use filled_buffer::Filled;
-use next_line::{NextLine, next_line};
+use next_line::{Malformed, next_line};
 use raw_writer::put_field;
 use tape::{Measured, judge_tape};
 
@@ -41,13 +41,13 @@ fn put_fields(text: &[u8], sheet: &mut [u8]) -> Laid
     let mut count: u32 = 0;
     loop {
         match next_line(text, from) {
-            NextLine::Last => {
+            Ok(None) => {
                 return Laid { at, count };
             }
-            NextLine::Malformed => {
+            Err(Malformed) => {
                 return Laid { at, count };
             }
-            NextLine::Field(field, next) => {
+            Ok(Some((field, next))) => {
                 at = put_at(sheet, at, field);
                 count += 1;
                 from = next;

@@ -9,6 +9,8 @@ use Rattle.text.proofs.Text.put.Reads as put
 use Rattle.text.proofs.Text.put.Kinds as put_k
 use Rattle.text.proofs.Text.number.Reads as number
 use Rattle.text.proofs.Text.number.Kinds as numberK
+use Rattle.text.proofs.Text.as_bytes.Reads as as-bytes
+use Rattle.text.proofs.Text.as_bytes.Kinds as as-bytesK
 use Rattle.text.proofs.Text.put_into.Reads as put-into
 use Rattle.text.proofs.Text.put_into.Kinds as put-intoK
 
@@ -27,8 +29,11 @@ put-once κs a x y s t p q = once p.is q.is
 pub number-once : Once 0 numberK.ps numberK.r number.Post (λ κs x s. x)
 number-once κs a x y s t p q = once p.is q.is
 
-pub put-into-once : Once 1 put-intoK.ps put-intoK.r put-into.Post (λ κs x s. x)
+pub as-bytes-once : Once 1 as-bytesK.ps as-bytesK.r as-bytes.Post (λ κs x s. x.now)
+as-bytes-once κs a x y s t p q = once p q
+
+pub put-into-once : Once 2 put-intoK.ps put-intoK.r put-into.Post (λ κs x s. x)
 put-into-once κs a x y s t p q = once p.0 q.0
 
-pub put-into-leaves-once : Once 1 put-intoK.ps put-intoK.r put-into.Post (λ κs x s. s.1.0.now)
+pub put-into-leaves-once : Once 2 put-intoK.ps put-intoK.r put-into.Post (λ κs x s. s.1.0.now)
 put-into-leaves-once κs a x y s t p q = once p.1 q.1

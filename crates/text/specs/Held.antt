@@ -1,9 +1,5 @@
 -- A text that is put together piece by piece: what it holds, or that a piece did not fit.
-use Rattle.std.specs.Prelude.{ℕ, ◌+◌, ◌-◌, ◌≡◌, cond, List, ◌++◌, leb, length, take, replicate}
-use Rattle.text.specs.Over.{over, put_place, put_buffer}
-use Rattle.text.specs.declared.Put.{Put}
-use Rattle.text.specs.declared.Put.TheVariants.{Full}
-use Rattle.text.specs.declared.Text.{Text}
+use Rattle.std.specs.Prelude.{ℕ, ◌≡◌, cond, List, [], ◌++◌, leb, length, Option, Some, None}
 
 -- the bytes, or that there were more than 512
 pub data Held : Type 0 where
@@ -14,9 +10,10 @@ pub data Held : Type 0 where
 unfoldable pub fit : List ℕ → Held
 fit s = cond (leb (length s) 512) (Has s) TooLong
 
--- what a text holds
-unfoldable pub held : Text → Held
-held t = cond (leb t.len 512) (Has (take t.len t.store)) TooLong
+-- what a text holds, or that there is none, since a piece did not fit
+abbrev pub held : Option (List ℕ) → Held
+held (Some t) = Has t
+held None = TooLong
 
 -- bytes put behind what is held
 infixl 20 ◌⊕◌
@@ -25,29 +22,14 @@ Has a ⊕ s = fit (a ++ s)
 TooLong ⊕ s = TooLong
 
 -- the text of no bytes
-abbrev pub empty_text : Text
-empty_text = record { store = replicate 512 0; len = 0 }
+abbrev pub empty_text : List ℕ
+empty_text = []
 
--- a text with the bytes put behind it: a len of 513 says that they did not fit
-abbrev pub added : Text → List ℕ → Text
-added t s =
-    cond (leb t.len 512)
-    (cond (leb (length s) (512 - t.len))
-    (record { store = over t.store t.len s; len = t.len + length s })
-    (record { store = t.store; len = 513 }))
-    t
+-- a text with the bytes put behind it, where they fit
+abbrev pub added : List ℕ → List ℕ → Option (List ℕ)
+added t s = cond (leb (length (t ++ s)) 512) (Some (t ++ s)) None
 
 -- the text, every byte of it, and what it holds
-pub record Added (t : Text) (s : List ℕ) (r : Text) : Type 0 where
+pub record Added (t : List ℕ) (s : List ℕ) (r : Option (List ℕ)) : Type 0 where
   pub is : r ≡ added t s
-  pub holds : held r ≡ held t ⊕ s
-
--- the place behind a whole text put into a buffer
-abbrev pub place_after : List ℕ → ℕ → Held → Put
-place_after b at (Has s) = put_place b at s
-place_after b at TooLong = Full
-
--- the buffer with it, or as it was
-abbrev pub buffer_after : List ℕ → ℕ → Held → List ℕ
-buffer_after b at (Has s) = put_buffer b at s
-buffer_after b at TooLong = b
+  pub holds : held r ≡ Has t ⊕ s

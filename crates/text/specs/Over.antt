@@ -1,7 +1,5 @@
 -- Bytes put into a buffer from a place on, all of them or none.
-use Rattle.std.specs.Prelude.{ℕ, ◌+◌, Bool, cond, List, ◌++◌, leb, length, take, drop}
-use Rattle.text.specs.declared.Put.{Put}
-use Rattle.text.specs.declared.Put.TheVariants.{Next, Full}
+use Rattle.std.specs.Prelude.{ℕ, ◌+◌, Bool, cond, List, ◌++◌, leb, length, take, drop, Option, Some, None}
 
 -- a buffer with the bytes in the place of as many of its own
 abbrev pub over : List ℕ → ℕ → List ℕ → List ℕ
@@ -12,8 +10,8 @@ abbrev pub fits : List ℕ → ℕ → List ℕ → Bool
 fits b at s = leb (at + length s) (length b)
 
 -- the place behind them, or no room
-abbrev pub put_place : List ℕ → ℕ → List ℕ → Put
-put_place b at s = cond (fits b at s) (Next (at + length s)) Full
+abbrev pub put_place : List ℕ → ℕ → List ℕ → Option ℕ
+put_place b at s = cond (fits b at s) (Some (at + length s)) None
 
 -- the buffer with them, or as it was
 abbrev pub put_buffer : List ℕ → ℕ → List ℕ → List ℕ

@@ -3,15 +3,10 @@
 
 ghost use Rattle.std.specs.Prelude.{◌≡◌, ◌+◌, ◌≤◌, length};
 ghost use Rattle.text.specs.Over.{over, put_place, put_buffer};
-ghost use Rattle.text.specs.Held.{Added, empty_text, held, place_after, buffer_after};
+ghost use Rattle.text.specs.Held.{Added, empty_text};
 ghost use Rattle.text.specs.Decimal.{decimal};
 
-// The place behind what was put; or there is no room for it.
-#[derive(Clone, Copy)]
-pub enum Put {
-    Next(usize),
-    Full,
-}
+use std::marker::Model;
 
 // The bytes from the place on, where there is room.
 fn copy_in(dst: &mut [u8], at: usize, s: &[u8])
@@ -21,25 +16,35 @@ fn copy_in(dst: &mut [u8], at: usize, s: &[u8])
     dst[at..at + s.len()].copy_from_slice(s);
 }
 
-// All of the bytes from the place on, or nothing.
-pub fn put_bytes(buf: &mut [u8], at: usize, s: &[u8]) -> Put
+// All of the bytes from the place on, or nothing: the place behind them, where there is room for them.
+pub fn put_bytes(buf: &mut [u8], at: usize, s: &[u8]) -> Option<usize>
     ensures { (result ≡ put_place buf.old at s.now) × (buf.new ≡ put_buffer buf.old at s.now) }
 {
     if buf.len() < at {
-        return Put::Full;
+        return None;
     }
     if buf.len() - at < s.len() {
-        return Put::Full;
+        return None;
     }
     copy_in(buf, at, s);
-    Put::Next(at + s.len())
+    Some(at + s.len())
 }
 
-// A text of up to 512 bytes. A len above 512 says that what was put did not fit.
-#[derive(Clone, Copy)]
+// A text of up to 512 bytes. It is a store with a length, since there is no heap; what is behind the length is no part of it.
+#[derive(Drop)]
 pub struct Text {
-    pub store: [u8; 512],
-    pub len: usize,
+    store: [u8; 512],
+    len: usize,
+}
+
+impl Model for Text {
+    ghost use Rattle.std.specs.Prelude.{ℕ, ◌≤◌, List, take};
+
+    ghost Value = { List ℕ };
+
+    ghost view = { λ t. take t.len t.store };
+
+    ghost invariant = { λ t. t.len ≤ 512 };
 }
 
 impl Text {
@@ -53,27 +58,21 @@ impl Text {
         }
     }
 
-    // The text with the bytes behind it.
-    pub fn put(self, s: &[u8]) -> Text
+    // The text with the bytes behind it, where they fit.
+    pub fn put(mut self, s: &[u8]) -> Option<Text>
         ensures { Added self s.now result }
     {
         let at = self.len;
-        let mut store = self.store;
-        if 512 < at {
-            return self;
-        }
         if 512 - at < s.len() {
-            return Text { store, len: 513 };
+            return None;
         }
-        copy_in(&mut store, at, s);
-        Text {
-            store,
-            len: at + s.len(),
-        }
+        copy_in(&mut self.store, at, s);
+        self.len = at + s.len();
+        Some(self)
     }
 
-    // The text with the number in decimal behind it.
-    pub fn number(self, n: u64) -> Text
+    // The text with the number in decimal behind it, where it fits.
+    pub fn number(self, n: u64) -> Option<Text>
         ensures { Added self (decimal n) result }
     {
         let mut digits = [0u8; 20];
@@ -81,15 +80,17 @@ impl Text {
         self.put(&digits[..k])
     }
 
-    // The whole text into the buffer from the place on, or nothing.
-    pub fn put_into(self, buf: &mut [u8], at: usize) -> Put
-        ensures { (result ≡ place_after buf.old at (held self)) × (buf.new ≡ buffer_after buf.old at (held self)) }
+    // Its bytes.
+    pub fn as_bytes(&self) -> &[u8]
+        ensures { result.now ≡ self.now }
     {
-        let len = self.len;
-        let store = self.store;
-        if 512 < len {
-            return Put::Full;
-        }
-        put_bytes(buf, at, &store[..len])
+        &self.store[..self.len]
+    }
+
+    // The whole text into the buffer from the place on, or nothing.
+    pub fn put_into(&self, buf: &mut [u8], at: usize) -> Option<usize>
+        ensures { (result ≡ put_place buf.old at self.now) × (buf.new ≡ put_buffer buf.old at self.now) }
+    {
+        put_bytes(buf, at, self.as_bytes())
     }
 }

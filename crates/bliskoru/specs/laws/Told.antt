@@ -1,7 +1,7 @@
 -- What is handed over is what the definitions say: a law for each answer of the code, from what the code knows where it has that answer.
 --     told     what is read off an answer of the code is what is read off the definition that it meets
 -- Assumes nothing.
-use Rattle.std.specs.Prelude.{ℕ, ◌≡◌, refl, List, [], ◌∷◌, ◌++◌, ℤ}
+use Rattle.std.specs.Prelude.{ℕ, ◌≡◌, refl, List, [], ◌∷◌, ◌++◌, ℤ, Option, Some, None}
 use Rattle.std.proofs.Common.{sym, ap, ◌∙◌}
 use Rattle.field.specs.declared.Field.{Field}
 use Rattle.field.specs.declared.Read.{Read}
@@ -19,8 +19,6 @@ use Rattle.price_rules.specs.declared.Closed.TheVariants as C
 use Rattle.price_rules.specs.Closing.{Told, Answers}
 use Rattle.price_rules.specs.Says.{closings_say, closed_says}
 use Rattle.filled_buffer.specs.declared.Filled.{Filled}
-use Rattle.text.specs.declared.Put.{Put}
-use Rattle.text.specs.declared.Put.TheVariants.{Next, Full}
 use Rattle.bliskoru.specs.declared.Row.{Row}
 use Rattle.bliskoru.specs.Host.{filled_number, filled_length, filled_place, length_or0, verdict_number, verdict_byte, row_of, rows_of, answers_number, answers_byte, answers_rows, values_of, said_number, said_next, read_values}
 use Rattle.bliskoru.specs.laws.Host.{row_says}
@@ -30,11 +28,11 @@ told g says e f = ap g (sym (ap says f) ∙ e)
 
 -- ---- the list
 
-module _ {d r : Put} (e : r ≡ d) where
-  pub listed : {n : ℕ} → r ≡ Next n → n ≡ length_or0 d
+module _ {d r : Option ℕ} (e : r ≡ d) where
+  pub listed : {n : ℕ} → r ≡ Some n → n ≡ length_or0 d
   listed f = told length_or0 (λ x. x) e f
 
-  pub no_room : r ≡ Full → 0 ≡ length_or0 d
+  pub no_room : r ≡ None → 0 ≡ length_or0 d
   no_room f = told length_or0 (λ x. x) e f
 
 -- ---- what was put at the start of a buffer

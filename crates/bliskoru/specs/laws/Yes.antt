@@ -2,7 +2,7 @@
 --     read_some, write-some, sheet-some, tape-some, untape-some, move_some     the number of a refusal is 1 or more
 --     list-some                             a list has a byte or more
 -- Assumes nothing.
-use Rattle.std.specs.Prelude.{ℕ, ◌+◌, ◌<◌, ◌≡◌, refl, Bool, true, false, cond, List, [], ◌∷◌, ◌++◌, leb, eqb, length}
+use Rattle.std.specs.Prelude.{ℕ, ◌+◌, ◌<◌, ◌≡◌, refl, Bool, true, false, cond, List, [], ◌∷◌, ◌++◌, leb, eqb, length, Option, Some, None}
 use Rattle.std.proofs.Common.{sym, ap, ◌∙◌, arith, length-append}
 use Rattle.std.proofs.lemmas.Bool.{eqb-false}
 use Rattle.field.specs.declared.Form.{Form}
@@ -21,8 +21,6 @@ use Rattle.sheet.specs.Judgement.{refuses-at, judge_sheet}
 use Rattle.sheet.specs.declared.Day.{Day}
 use Rattle.header_mover.specs.Moving.{moved_bytes, movable, moved_of, moved}
 use Rattle.items.specs.Items.{first, rest}
-use Rattle.line_reader.specs.declared.Line.{Line}
-use Rattle.line_reader.specs.declared.Line.TheVariants as L
 use Rattle.line_reader.specs.Lines.{field_in}
 use Rattle.tape.specs.Tape.{LinesSay, tells, bad, with, capped, onward, say_line, at_last, say_lines, text_says, sheet_of, sheet_made, text_of, text_made, tape_to_sheet, sheet_to_tape}
 use Rattle.filled_buffer.specs.Filling as Filling
@@ -111,9 +109,9 @@ bad-some line p l (m ∷ ls) n at e = by (field_in l) e (λ q g. bad-some (line 
     step f ends a g later = let z : 17 ≡ n = cc in omega arith
     step f (stops k) a g later = let z : k ≡ n = cc in omega (arith, stops-some (capped p) f k a)
 
-    by : (t : Line) → say_line line p t (λ q. say_lines (line + 1) q m ls) ≡ bad n at → ((q : Progress) → say_lines (line + 1) q m ls ≡ bad n at → 0 < n) → 0 < n
-    by (L.Field f) g later = step f (admit (capped p) f) refl g later
-    by L.Malformed g later = let z : 17 ≡ n = cc in omega arith
+    by : (t : Option Field) → say_line line p t (λ q. say_lines (line + 1) q m ls) ≡ bad n at → ((q : Progress) → say_lines (line + 1) q m ls ≡ bad n at → 0 < n) → 0 < n
+    by (Some f) g later = step f (admit (capped p) f) refl g later
+    by None g later = let z : 17 ≡ n = cc in omega arith
 
 made_some : (t : LinesSay) → ((k at : ℕ) → t ≡ bad k at → 0 < k) → (n place : ℕ) → sheet_made t ≡ Filling.refused n place → 0 < n
 unfolding sheet_made

@@ -1,6 +1,7 @@
 -- What holds as the code looks for the stop. Assumes nothing.
-use Rattle.std.specs.Prelude.{ℕ, ◌+◌, ◌≤◌, ◌<◌, ◌≡◌, refl, List, length, get_or}
+use Rattle.std.specs.Prelude.{ℕ, ◌+◌, ◌≤◌, ◌<◌, ◌≡◌, refl, List, length, get_or, max}
 use Rattle.std.proofs.Common.{◌∙◌, arith, add-one, eq-eqb, ne_eqb}
+use Rattle.std.proofs.Math.Decide.{dec_le}
 use Rattle.std.proofs.Math.ListN.{drop_of_length-le}
 use Rattle.std.proofs.Math.Seq.{drop-cons}
 use Rattle.items.specs.Items.{first, end_of}
@@ -23,3 +24,12 @@ module _ (stop : ℕ) (s : List ℕ) (from : ℕ) where
   pub at-end : (i : ℕ) → Looking stop s from i → length s ≤ i → i ≡ end_of stop s from
   unfolding end_of first
   at-end i o h = rw (o.same, drop_of_length-le s h) (omega arith)
+
+  -- behind the last byte: the end of all, or the place itself where it stands behind that
+  pub at_most : (i : ℕ) → Looking stop s from i → length s ≤ i → (from ≤ length s → i ≤ length s) → max from (length s) ≡ end_of stop s from
+  unfolding end_of first
+  at_most i o h g = by-test (dec_le from (length s))
+    where
+      by-test : Dec (from ≤ length s) → max from (length s) ≡ end_of stop s from
+      by-test (yes l) = let k = g l in omega arith ∙ at-end i o h
+      by-test (no l) = let k : length s ≤ from = omega arith in rw (drop_of_length-le s k) (omega arith)

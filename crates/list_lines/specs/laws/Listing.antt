@@ -1,10 +1,15 @@
 -- A contract's line item by item, and how long a list can be. Assumes nothing.
-use Rattle.std.specs.Prelude.{ℕ, ◌≤◌, ◌<◌, ◌≡◌, refl, List, [], ◌∷◌, ◌++◌, length}
-use Rattle.std.proofs.Common.{arith, length-append, le-leb}
+use Rattle.std.specs.Prelude.{ℕ, ◌+◌, ◌≤◌, ◌<◌, ◌≡◌, refl, List, [], ◌∷◌, ◌++◌, length, map, drop, get_or}
+use Rattle.std.proofs.Common.{sym, ap, ◌∙◌, arith, add-one, append-nil, length-append, le-leb}
+use Rattle.std.proofs.Math.ListN.{drop_of_length-le}
+use Rattle.std.proofs.Math.Seq.{drop-cons}
 use Rattle.std.proofs.Math.Decide.{dec_le}
 use Rattle.std.proofs.lemmas.Bool.{lt-leb}
 use Rattle.text.specs.Decimal.{decimal}
 use Rattle.text.specs.laws.Decimal.{decimal-length}
+use Rattle.text.specs.Held.{Held, Has, TooLong, fit, ◌⊕◌}
+use Rattle.text.specs.laws.Held.{fit-yes, ⊕-⊕, then_none, put_short}
+use Rattle.price_rules.specs.declared.Answer.{Answer}
 use Rattle.price_rules.specs.declared.Closed.{Closed}
 use Rattle.price_rules.specs.declared.Closed.TheVariants as C
 use Rattle.field.specs.declared.Field.{Field}
@@ -34,6 +39,41 @@ listed s h = simp (le-leb (length s) 65536 h)
 pub too_long : (s : List ℕ) → 65536 < length s → list_of s ≡ line (too_long_name ∷ [])
 unfolding list_of
 too_long s h = simp (lt-leb (length s) 65536 h)
+
+-- ---- the contracts' lines, as they are put one behind the other
+
+-- what is left to be put behind the text, from a contract on
+pub record Listed (t : List ℕ) (answers : List Answer) (text : List ℕ) (contract : ℕ) : Type 0 where
+  pub rest : Has t ⊕ answer_lines 0 (map answer_says answers) ≡ Has text ⊕ answer_lines contract (map answer_says (drop contract answers))
+  pub short : 1 ≤ contract → length text ≤ 512
+
+module _ (t : List ℕ) (answers : List Answer) where
+  pub list-start : Listed t answers t 0
+  list-start = record { rest = refl; short = λ h. absurd (omega arith) }
+
+  module _ (text : List ℕ) (contract : ℕ) (o : Listed t answers text contract) where
+    pub list-end : length answers ≤ contract → 1 ≤ contract → Has text ≡ Has t ⊕ answer_lines 0 (map answer_says answers)
+    unfolding answer_lines ◌⊕◌
+    list-end h some =
+        let d : drop contract answers ≡ [] = drop_of_length-le answers h in
+        sym (rw d at o.rest ∙ ap fit (append-nil text) ∙ fit-yes text (o.short some))
+
+    module _ (d : Answer) (h : contract < length answers) where
+      left : drop contract answers ≡ get_or answers contract d ∷ drop (contract + 1) answers
+      left = drop-cons answers contract d h ∙ rw add-one refl
+
+      here : Has t ⊕ answer_lines 0 (map answer_says answers) ≡ Has text ⊕ (answer_line contract (answer_says (get_or answers contract d)) ++ answer_lines (contract + 1) (map answer_says (drop (contract + 1) answers)))
+      unfolding answer_lines
+      here = o.rest ∙ rw (left, add-one) refl
+
+      pub list_next : (r : List ℕ) → Has r ≡ Has text ⊕ answer_line contract (answer_says (get_or answers contract d)) → Listed t answers r (contract + 1)
+      list_next r g = record {
+        rest = here ∙ sym (⊕-⊕ (Has text) _ _) ∙ ap (λ (v : Held). v ⊕ answer_lines (contract + 1) (map answer_says (drop (contract + 1) answers))) (sym g);
+        short = λ _. put_short (Has text) _ r g;
+      }
+
+      pub list-none : TooLong ≡ Has text ⊕ answer_line contract (answer_says (get_or answers contract d)) → TooLong ≡ Has t ⊕ answer_lines 0 (map answer_says answers)
+      list-none g = then_none text _ _ g ∙ sym here
 
 -- ---- lengths
 

@@ -1,21 +1,14 @@
--- `names::metal_in` meets its contract: name after name. Assumes nothing.
-use native.Mathlib.Omega.{arith}
-use borrow.Author.Rules.{rules}
-use Rattle.names.specs.Names.{metal_names, metal_name, metal_in}
-use Rattle.names.specs.laws.Finding.{seek-metal, metal-short, seek-start, seek-none, turn-found, turn-next}
+-- `names::metal_in` meets its contract: the first of the numbers whose name it is. Assumes nothing.
+use Rattle.std.specs.Prelude.{◌≡◌, refl, option_map}
+use Rattle.std.proofs.Common.{◌∙◌, rules, tests}
+use Rattle.std.proofs.lemmas.Iterator.{YieldsList-from_range}
+use Rattle.std.proofs.lemmas.Iterator.Search.{find_from_yields_List}
+use Rattle.names.specs.Names.{metal_name, same, metal_in}
 use Rattle.names.proofs.metal_in.Goals as goal
 
-ruleset seeking = (seek-start, metal-short, rules)
-
-pub returns-then-is_held : goal.returns-then-is_held
-unfolding metal_in
-returns-then-is_held c =
-    turn-found metal_names 1 metal_name seek-metal _ _ c.loop-metal.invariant (omega arith) _ _ c.metal_name.ensures c.is_held.ensures c.if-is_held.true
-
-pub loop-metal-preserved : goal.loop-metal-preserved
-loop-metal-preserved c =
-    turn-next metal_names 1 metal_name seek-metal _ _ c.loop-metal.invariant (omega arith) _ _ c.metal_name.ensures c.is_held.ensures c.if-is_held.false
-
 pub returns : goal.returns
-unfolding metal_in
-returns c = seek-none metal_names 1 _ _ c.loop-metal.invariant (omega arith)
+unfolding metal_in metal_name
+returns c =
+    let found = find_from_yields_List (λ m. same (metal_name m) c.args.s.now) _ _ c.find.result c.find.ensures.ran (YieldsList-from_range 1 6 5 refl refl) (λ x b q k. search (rules, tests)) in
+    let same_number : c.map.result ≡ option_map (λ x. x) c.find.result = search rules in
+    same_number ∙ found

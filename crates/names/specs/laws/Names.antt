@@ -1,18 +1,13 @@
 -- The numbers that have no name, how long a name can be, and that every metal of a right header has one. Assumes nothing.
-use Rattle.std.specs.Prelude.{ℕ, zero, suc, ◌-◌, ◌≤◌, ◌≡◌, refl, Bool, true, List, [], ◌∷◌, ◌++◌, T, leb, get_or, length, take, drop, replicate}
-use Rattle.std.proofs.Common.{sym, ap, ◌∙◌, arith, leb→le}
+use Rattle.std.specs.Prelude.{ℕ, zero, suc, ◌≤◌, ◌≡◌, refl, Bool, true, List, [], ◌∷◌, T, leb, get_or, length}
+use Rattle.std.proofs.Common.{sym, arith, leb→le}
 use Rattle.std.proofs.Math.ListN.{get_or-eq_default}
-use Rattle.std.proofs.Math.Seq.{take-length, take-append_seam}
 use Rattle.market.specs.laws.Table.{both, both_left, both_right, from_one}
-use Rattle.field.specs.Judging.{third_of, header_right}
+use Rattle.field.specs.Judging.{header_right}
 use Rattle.field.proofs.Sound.{metal-range}
-use Rattle.sheet.specs.declared.Day.{Day}
-use Rattle.sheet.specs.Judgement.{accepts, judge_sheet}
-use Rattle.sheet.specs.laws.Accepted.{accepted-right}
 use Rattle.price_rules.specs.declared.Method.{Method}
 use Rattle.price_rules.specs.declared.Method.TheVariants.{Vwap, Twap}
-use Rattle.names.specs.declared.Name.{Name}
-use Rattle.names.specs.Names.{metal_names, metal_name, contract_names, contract_name, instrument_names, instrument_name, method_name, in_name}
+use Rattle.names.specs.Names.{metal_names, metal_name, contract_names, contract_name, instrument_names, instrument_name, method_name}
 
 -- ---- numbers that have no name, as the last arm of a `match` says that a number is none of the others
 
@@ -30,28 +25,6 @@ unfolding instrument_name
 instrument-none i h =
     let low : 6 ≤ i = omega (arith, h.0.0.0.0.0.0.0.0.0.0.0.1, h.0.0.0.0.0.0.0.0.0.0.1, h.0.0.0.0.0.0.0.0.0.1, h.0.0.0.0.0.0.0.0.1, h.0.0.0.0.0.0.0.1, h.0.0.0.0.0.0.1) in
     sym (get_or-eq_default instrument_names [] {n = i} (omega (arith, h.0.0.0.0.0.1, h.0.0.0.0.1, h.0.0.0.1, h.0.0.1, h.0.1, h.1)))
-
--- ---- names by value
-
--- bytes that are all a space
-abbrev blank : ℕ → List ℕ
-blank n = replicate n 32
-
-spaces : (k n : ℕ) → drop k (blank n) ≡ blank (n - k)
-spaces zero n = let z : n ≡ n - 0 = omega arith in ap blank z
-spaces (suc k) zero = let z : 0 ≡ 0 - suc k = omega arith in ap blank z
-spaces (suc k) (suc n) = let z : n - k ≡ suc n - suc k = omega arith in spaces k n ∙ ap blank z
-
--- bytes copied over nine spaces are a name by value
-pub laid : (s out : List ℕ) (len : ℕ) → len ≡ length s → out ≡ take (length s) s ++ drop (length s) (blank 9) → ◌≡◌ {A = Name} (record { bytes = out; len = len }) (in_name s)
-laid s out len e f = let g : out ≡ s ++ blank (9 - length s) = f ∙ simp (take-length, spaces) in simp (e, g)
-
--- and give the bytes back
-pub name-bytes : (s : List ℕ) (name : Name) → name ≡ in_name s → take name.len name.bytes ≡ s
-name-bytes s name e = simp e (take-append_seam s (blank (9 - length s)))
-
-pub name-short : (s : List ℕ) (name : Name) → name ≡ in_name s → length s ≤ 9 → name.len ≤ 9
-name-short s name e h = simp e h
 
 -- ---- lengths
 

@@ -4,10 +4,10 @@ use Rattle.next_line.specs.laws.Next.{next-right, next_last, next_field, next-ba
 use Rattle.std.proofs.Common.{rules}
 use Rattle.next_line.proofs.next_line.Goals as goal
 
-ruleset reading = (next-right, next_last, next_field, next-bad, end-least, rules)
+ruleset reading = (next_last, next_field, next-bad, end-least, rules)
 
-pub returns-then-right-ne0 : goal.returns-then-right-ne0
-returns-then-right-ne0 c = search reading
+pub returns-in-Some : goal.returns-in-Some
+returns-in-Some c = next-right _ _ _ c.in-Some.ensures
 
 pub returns-then-text-end : goal.returns-then-text-end
 returns-then-text-end c = search reading
@@ -18,8 +18,8 @@ slice_bounds-read_line-count c = search reading
 pub slice_bounds-read_line-start : goal.slice_bounds-read_line-start
 slice_bounds-read_line-start c = search reading
 
-pub returns-in-Field : goal.returns-in-Field
-returns-in-Field c = search reading
+pub returns-in-Some-read_line : goal.returns-in-Some-read_line
+returns-in-Some-read_line c = search reading
 
-pub returns-in-Malformed : goal.returns-in-Malformed
-returns-in-Malformed c = search reading
+pub returns-in-None : goal.returns-in-None
+returns-in-None c = search reading

@@ -1,21 +1,19 @@
 -- `next_line::number_at` meets its contract. Assumes nothing.
-use Rattle.std.proofs.Common.{rules}
-use Rattle.next_line.specs.laws.Standing.{found_none, number-zero, number-start, number-end, number-full, number-most, number-wide, number_more, number-next}
+use Rattle.std.proofs.Common.{arith, rules}
+use Rattle.next_line.specs.laws.Standing.{number-zero, number-start, number-wide, number_more, number-next}
 use Rattle.next_line.proofs.number_at.Goals as goal
 
-ruleset counting = (found_none, number-zero, number-start, number-end, number-full, number-most, number-wide, number_more, number-next, rules)
-
 pub returns-then-first-eq0 : goal.returns-then-first-eq0
-returns-then-first-eq0 c = search counting
+returns-then-first-eq0 c = (number-zero _ _ c.requires _ c.in_ok-first.ensures c.if-first-eq0.true, omega arith)
 
 pub loop-k-init : goal.loop-k-init
-loop-k-init c = search counting
+loop-k-init c = number-start _ _ c.requires _ c.in_ok-first.ensures c.if-first-eq0.false
 
 pub overflow_mul-n : goal.overflow_mul-n
-overflow_mul-n c = search counting
+overflow_mul-n c = search (number-wide, rules)
 
 pub overflow_add-n : goal.overflow_add-n
-overflow_add-n c = search counting
+overflow_add-n c = number_more _ _ c.requires _ _ c.loop-k.invariant (omega arith) _ c.in-Some.ensures
 
 pub loop-k-preserved : goal.loop-k-preserved
-loop-k-preserved c = search counting
+loop-k-preserved c = number-next _ _ c.requires _ _ c.loop-k.invariant (omega arith) _ c.in-Some.ensures

@@ -1,12 +1,9 @@
 -- `next_line::side_at` meets its contract. Assumes nothing.
 use Rattle.next_line.specs.laws.Records.{side-there, side-absent}
-use Rattle.std.proofs.Common.{rules}
 use Rattle.next_line.proofs.side_at.Goals as goal
 
-ruleset finding = (side-there, side-absent, rules)
-
-pub returns-then-found-ne0 : goal.returns-then-found-ne0
-returns-then-found-ne0 c = search finding
+pub returns-in-Some : goal.returns-in-Some
+returns-in-Some c = side-there _ _ _ _ c.in-Some.ensures.0 c.in-Some.ensures.1
 
 pub returns : goal.returns
-returns c = search finding
+returns c = side-absent _ _ _ c.in_ok-next.ensures

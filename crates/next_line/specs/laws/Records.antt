@@ -1,13 +1,11 @@
 -- The pieces of a trade's and of a quote's line, as the code finds them one behind the other. Assumes nothing.
-use Rattle.std.specs.Prelude.{◌≡◌, ℕ, zero, suc, ◌+◌, ◌-◌, ◌*◌, ◌^◌, ◌<◌, ◌≤◌, Bool, true, false, cond, List, [], ◌∷◌, ◌++◌, length, take, drop, ℤ, pos, ◌-ℤ◌, neg_ℤ, FitsSigned, ◌==◌, ◌≢◌, slice_index, slice_range, unsigned_abs, refl}
+use Rattle.std.specs.Prelude.{◌≡◌, ℕ, zero, suc, ◌+◌, ◌-◌, ◌*◌, ◌^◌, ◌<◌, ◌≤◌, Bool, true, false, cond, List, [], ◌∷◌, ◌++◌, length, take, drop, ℤ, pos, ◌-ℤ◌, neg_ℤ, FitsSigned, ◌==◌, slice_index, slice_range, unsigned_abs, refl, Option, Some, None}
 use Rattle.std.proofs.Common.{sym, ap, ◌∙◌, subst, arith, to_z, of_z, Fits, to_z-of_z, eqb-true}
 use Rattle.std.specs.Int.{w8, w32}
 use Rattle.std.proofs.Math.Facts.{to_z_pos}
 use Rattle.std.proofs.lemmas.Bool.{eqb-false}
 use Rattle.text.specs.Ascii.{ascii}
 use Rattle.text.specs.Decimal.{digit, decimal}
-use Rattle.numerals.specs.declared.Number.{Number}
-use Rattle.numerals.specs.declared.Number.TheVariants as Numeral
 use Rattle.field.specs.declared.Price.{Price}
 use Rattle.field.specs.declared.Field.{Field}
 use Rattle.field.specs.declared.Field.TheVariants as F
@@ -17,20 +15,11 @@ use Rattle.dollars.specs.laws.Cases.{minus as less, down_fits}
 use Rattle.dollars.proofs.Dollars.{amount-of, price-plain, price-minus}
 use Rattle.names.specs.Names.{same, instrument_in, instrument_name}
 use Rattle.names.specs.laws.Finding.{same-is, instrument-found}
-use Rattle.line_reader.specs.Lines.{side_text, line_of}
+use Rattle.line_reader.specs.Lines.{side_bit, side_price, side_text, line_of}
+use Rattle.line_reader.specs.laws.Cases.{side-bit}
 use Rattle.line_reader.specs.laws.Pieces.{trade-line, quote-line}
 use Rattle.line_reader.specs.laws.Trips.{Lined, Shown, Legible, bits, bit-there}
-use Rattle.next_line.specs.declared.SideAt.{SideAt}
-use Rattle.next_line.specs.declared.StampAt.{StampAt}
-use Rattle.next_line.specs.declared.RecordAt.{RecordAt}
-use Rattle.next_line.specs.laws.Standing.{Stands, Found, Near, Digit-at, then, same_bytes, stands-byte, stands-part, found, found_none}
-
--- what holds where a place is handed back
-pub record Where (next : ℕ) (A : Type 0) : Type 0 where
-  pub holds : (next ≡ 0 → ⊥) → A
-
-pub nowhere : {A : Type 0} (next : ℕ) → next ≡ 0 → Where next A
-nowhere next e = record { holds = λ n. absurd (n e) }
+use Rattle.next_line.specs.laws.Standing.{Stands, Found, Near, Digit-at, then, same_bytes, stands-byte, stands-part, found}
 
 -- ---- words and names
 
@@ -38,7 +27,7 @@ pub word-found : (s word : List ℕ) (at : ℕ) (t : Bool) → at + length word 
 word-found s word at t h q e =
     found (same_bytes (sym (same-is word _ (sym q ∙ e))) (stands-part s at (at + length word) (omega arith) h)) (omega arith)
 
-module _ (s : List ℕ) (at next : ℕ) (room : at + 7 ≤ length s) (near : Near at 7 next) (r : Number) (q : r ≡ instrument_in (slice_range s at next)) (i : ℕ) (e : r ≡ Numeral.Value i) where
+module _ (s : List ℕ) (at next : ℕ) (room : at + 7 ≤ length s) (near : Near at 7 next) (r : Option ℕ) (q : r ≡ instrument_in (slice_range s at next)) (i : ℕ) (e : r ≡ Some i) where
   known : (i ≤ 11) × (instrument_name i ≡ slice_range s at next)
   known = instrument-found _ i (sym q ∙ e)
 
@@ -53,7 +42,7 @@ module _ (s : List ℕ) (at next : ℕ) (room : at + 7 ≤ length s) (near : Nea
 
 -- ---- amounts
 
-module _ (s : List ℕ) (at d point : ℕ) (room : at + 12 ≤ length s) (f : Found s at 9 (decimal d) point) (some : point ≡ 0 → ⊥) where
+module _ (s : List ℕ) (at d point : ℕ) (room : at + 12 ≤ length s) (f : Found s at 9 (decimal d) point) where
   pub point-in : point < length s
   point-in = omega (arith, f.near)
 
@@ -63,13 +52,13 @@ module _ (s : List ℕ) (at d point : ℕ) (room : at + 12 ≤ length s) (f : Fo
   pub units_in : point + 2 < length s
   units_in = omega (arith, f.near)
 
-  pub amount-found : (x y : ℕ) → slice_index s point ≡ 46 → Digit-at s (point + 1) x → x ≤ 9 → Digit-at s (point + 2) y → y ≤ 9 → Found s at 12 (amount (d * 100 + (x * 10 + y))) (point + 3)
-  amount-found x y p a h b g =
+  pub amount-found : (x y : ℕ) → slice_index s point ≡ 46 → Digit-at s (point + 1) x → Digit-at s (point + 2) y → Found s at 12 (amount (d * 100 + (x * 10 + y))) (point + 3)
+  amount-found x y p a b =
       let z : point + 1 + 1 ≡ point + 2 = omega arith in
       let v : point + 2 + 1 ≡ point + 3 = omega arith in
-      let tens = subst (λ (k : ℕ). Stands s (point + 1) (digit x ∷ []) k) z (stands-byte s (point + 1) (digit x) tens-in (a.is h)) in
-      let units = subst (λ (k : ℕ). Stands s (point + 2) (digit y ∷ []) k) v (stands-byte s (point + 2) (digit y) units_in (b.is g)) in
-      found (same_bytes (amount-of d x y (omega arith) (omega arith)) (then (f.stands some) (then (stands-byte s point 46 point-in p) (then tens units)))) (omega (arith, f.near))
+      let tens = subst (λ (k : ℕ). Stands s (point + 1) (digit x ∷ []) k) z (stands-byte s (point + 1) (digit x) tens-in a.is) in
+      let units = subst (λ (k : ℕ). Stands s (point + 2) (digit y ∷ []) k) v (stands-byte s (point + 2) (digit y) units_in b.is) in
+      found (same_bytes (amount-of d x y (omega (arith, a.small)) (omega (arith, b.small))) (then f.stands (then (stands-byte s point 46 point-in p) (then tens units)))) (omega (arith, f.near))
 
 -- ---- prices
 
@@ -132,44 +121,40 @@ unfolding signed_as behind_sign negative_zero
 signed-found s at from true n next h m e f z =
     let g : Found s (at + 1) 12 (amount n) next = subst (λ (v : ℕ). Found s v 12 (amount n) next) e f in
     record {
-      stands = λ k. same_bytes (price-minus n (omega (arith, eqb-false n 0 z))) (then (stands-byte s at 45 (omega arith) (eqb-true (slice_index s at) 45 (sym m))) (g.stands k));
+      stands = same_bytes (price-minus n (omega (arith, eqb-false n 0 z))) (then (stands-byte s at 45 (omega arith) (eqb-true (slice_index s at) 45 (sym m))) g.stands);
       near = omega (arith, g.near);
     }
 signed-found s at from false n next h m e f z =
     let g : Found s at 12 (amount n) next = subst (λ (v : ℕ). Found s v 12 (amount n) next) e f in
-    record { stands = λ k. same_bytes (price-plain n) (g.stands k); near = omega (arith, g.near) }
+    record { stands = same_bytes (price-plain n) g.stands; near = omega (arith, g.near) }
 
 pub price-found : (s : List ℕ) (at from : ℕ) (minus : Bool) (n next : ℕ) (t : Bool) (p : Price) → at + 13 ≤ length s → minus ≡ (slice_index s at == 45) → from ≡ behind_sign at minus → Found s from 12 (amount n) next → t ≡ negative_zero minus n → t ≡ false → p ≡ priced (signed_as minus n) → Found s at 13 (price_text p.cents) next
 price-found s at from minus n next t p h m e f z g q = rw q (signed-found s at from minus n next h m e f (sym z ∙ g))
 
 -- ---- sides
 
-pub record Side-found (s : List ℕ) (at : ℕ) (r : SideAt) : Type 0 where
-  pub side : Found s at 13 (side_text (r.bit == 1) r.price) r.next
-  pub one : r.bit ≤ 1
-  pub shown : Shown (r.bit == 1) r.price
+pub record Side-found (s : List ℕ) (at : ℕ) (side : Option Price) (next : ℕ) : Type 0 where
+  pub text : Found s at 13 (side_text (side_bit side == 1) (side_price side)) next
+  pub shown : Shown (side_bit side == 1) (side_price side)
 
-pub side-there : (s : List ℕ) (at next : ℕ) (p : Price) → Found s at 13 (price_text p.cents) next → unsigned_abs p.cents ≤ 999999999 → Side-found s at (record { bit = 1; price = p; next = next })
+pub side-there : (s : List ℕ) (at next : ℕ) (p : Price) → Found s at 13 (price_text p.cents) next → unsigned_abs p.cents ≤ 999999999 → Side-found s at (Some p) next
 unfolding side_text pick
-side-there s at next p f h = record { side = f; one = omega arith; shown = (omega arith, refl) }
+side-there s at next p f h = record { text = f; shown = (omega arith, refl) }
 
-pub side-absent : (s : List ℕ) (at next : ℕ) → Found s at 1 (45 ∷ []) next → Side-found s at (record { bit = 0; price = priced (pos 0); next = next })
+pub side-absent : (s : List ℕ) (at next : ℕ) → Found s at 1 (45 ∷ []) next → Side-found s at None next
 unfolding side_text pick both
-side-absent s at next f = record { side = record { stands = f.stands; near = omega (arith, f.near) }; one = omega arith; shown = (omega arith, refl) }
+side-absent s at next f = record { text = record { stands = f.stands; near = omega (arith, f.near) }; shown = (omega arith, refl) }
 
 -- ---- the two items that trades and quotes begin with
 
-pub record Stamp-found (s : List ℕ) (at : ℕ) (r : StampAt) : Type 0 where
-  pub stamp : Found s at 17 (decimal r.time ++ 44 ∷ instrument_name r.instrument) r.next
-  pub small : r.time ≤ 999999999
-  pub few : r.instrument ≤ 11
+pub record Stamp-found (s : List ℕ) (at time instrument next : ℕ) : Type 0 where
+  pub stamp : Found s at 17 (decimal time ++ 44 ∷ instrument_name instrument) next
+  pub small : time ≤ 999999999
+  pub few : instrument ≤ 11
 
-pub no-stamp : (s : List ℕ) (at : ℕ) → Stamp-found s at (record { time = 0; instrument = 0; next = 0 })
-no-stamp s at = record { stamp = found_none s at 17 _; small = omega arith; few = omega arith }
-
-pub stamp-found : (s : List ℕ) (at time a b instrument next : ℕ) → Found s at 9 (decimal time) a → (a ≢ 0) → Found s a 1 (44 ∷ []) b → (b ≢ 0) → Found s b 7 (instrument_name instrument) next → time ≤ 999999999 → instrument ≤ 11 → Stamp-found s at (record { time = time; instrument = instrument; next = next })
-stamp-found s at time a b instrument next f m g n h small few = record {
-  stamp = record { stands = λ k. then (f.stands m) (then (g.stands n) (h.stands k)); near = omega (arith, f.near, g.near, h.near) };
+pub stamp-found : (s : List ℕ) (at time a b instrument next : ℕ) → Found s at 9 (decimal time) a → Found s a 1 (44 ∷ []) b → Found s b 7 (instrument_name instrument) next → time ≤ 999999999 → instrument ≤ 11 → Stamp-found s at time instrument next
+stamp-found s at time a b instrument next f g h small few = record {
+  stamp = record { stands = then f.stands (then g.stands h.stands); near = omega (arith, f.near, g.near, h.near) };
   small = small;
   few = few;
 }
@@ -185,48 +170,23 @@ pub record Trade-is (s : List ℕ) (at time instrument : ℕ) (f : Field) (next 
   pub most : lots ≤ 65535
 
 pub record Quote-is (s : List ℕ) (at time instrument : ℕ) (f : Field) (next : ℕ) : Type 0 where
-  pub x : ℕ
-  pub y : ℕ
-  pub bid : Price
-  pub offer : Price
-  pub is : f ≡ F.Quote time instrument (x + 2 * y) bid offer
-  pub tail : Stands s at (side_text (x == 1) bid ++ (44 ∷ side_text (y == 1) offer ++ 10 ∷ [])) next
-  pub bits : (x ≤ 1) × (y ≤ 1)
-  pub shown : Shown (x == 1) bid × Shown (y == 1) offer
+  pub bid : Option Price
+  pub offer : Option Price
+  pub is : f ≡ F.Quote time instrument (side_bit bid + 2 * side_bit offer) (side_price bid) (side_price offer)
+  pub tail : Stands s at (side_text (side_bit bid == 1) (side_price bid) ++ (44 ∷ side_text (side_bit offer == 1) (side_price offer) ++ 10 ∷ [])) next
+  pub shown : Shown (side_bit bid == 1) (side_price bid) × Shown (side_bit offer == 1) (side_price offer)
 
-pub record Trade-found (s : List ℕ) (at time instrument : ℕ) (r : RecordAt) : Type 0 where
-  pub trade : Where r.next (Trade-is s at time instrument r.field r.next)
+pub trade-found : (s : List ℕ) (at time instrument : ℕ) (p : Price) (a b c lots next : ℕ) → Found s at 13 (price_text p.cents) a → Found s a 1 (44 ∷ []) b → Found s b 9 (decimal lots) c → Found s c 1 (10 ∷ []) next → unsigned_abs p.cents ≤ 999999999 → lots ≤ 65535 → Trade-is s at time instrument (F.Trade time instrument p lots) next
+trade-found s at time instrument p a b c lots next f g h i small most =
+    record { price = p; lots = lots; is = refl; tail = then f.stands (then g.stands (then h.stands i.stands)); small = small; most = most }
 
-pub record Quote-found (s : List ℕ) (at time instrument : ℕ) (r : RecordAt) : Type 0 where
-  pub quote : Where r.next (Quote-is s at time instrument r.field r.next)
-
-pub no-trade : (s : List ℕ) (at time instrument : ℕ) (r : RecordAt) → r.next ≡ 0 → Trade-found s at time instrument r
-no-trade s at time instrument r e = record { trade = nowhere r.next e }
-
-pub no-quote : (s : List ℕ) (at time instrument : ℕ) (r : RecordAt) → r.next ≡ 0 → Quote-found s at time instrument r
-no-quote s at time instrument r e = record { quote = nowhere r.next e }
-
-pub trade-found : (s : List ℕ) (at time instrument : ℕ) (p : Price) (a b c lots next : ℕ) → Found s at 13 (price_text p.cents) a → (a ≢ 0) → Found s a 1 (44 ∷ []) b → (b ≢ 0) → Found s b 9 (decimal lots) c → (c ≢ 0) → Found s c 1 (10 ∷ []) next → unsigned_abs p.cents ≤ 999999999 → lots ≤ 65535 → Trade-found s at time instrument (record { field = F.Trade time instrument p lots; next = next })
-trade-found s at time instrument p a b c lots next f m g n h o i small most = record {
-  trade = record {
-    holds = λ k. record { price = p; lots = lots; is = refl; tail = then (f.stands m) (then (g.stands n) (then (h.stands o) (i.stands k))); small = small; most = most };
-  };
-}
-
-pub quote-found : (s : List ℕ) (at time instrument : ℕ) (bid offer : SideAt) (b next : ℕ) → Side-found s at bid → (bid.next ≢ 0) → Found s bid.next 1 (44 ∷ []) b → (b ≢ 0) → Side-found s b offer → (offer.next ≢ 0) → Found s offer.next 1 (10 ∷ []) next → Quote-found s at time instrument (record { field = F.Quote time instrument (bid.bit + 2 * offer.bit) bid.price offer.price; next = next })
-quote-found s at time instrument bid offer b next f m g n h o i = record {
-  quote = record {
-    holds = λ k. record {
-      x = bid.bit;
-      y = offer.bit;
-      bid = bid.price;
-      offer = offer.price;
-      is = refl;
-      tail = then (f.side.stands m) (then (g.stands n) (then (h.side.stands o) (i.stands k)));
-      bits = (f.one, h.one);
-      shown = (f.shown, h.shown);
-    };
-  };
+pub quote-found : (s : List ℕ) (at time instrument : ℕ) (bid offer : Option Price) (a b c next sides : ℕ) (p q : Price) → Side-found s at bid a → Found s a 1 (44 ∷ []) b → Side-found s b offer c → Found s c 1 (10 ∷ []) next → sides ≡ side_bit bid + 2 * side_bit offer → p ≡ side_price bid → q ≡ side_price offer → Quote-is s at time instrument (F.Quote time instrument sides p q) next
+quote-found s at time instrument bid offer a b c next sides p q f g h i u v w = record {
+  bid = bid;
+  offer = offer;
+  is = simp (u, v, w);
+  tail = then f.text.stands (then g.stands (then h.text.stands i.stands));
+  shown = (f.shown, h.shown);
 }
 
 -- ---- the whole line
@@ -236,41 +196,29 @@ pub record Record-is (s : List ℕ) (at : ℕ) (f : Field) (next : ℕ) : Type 0
   pub legible : Legible f
   pub lined : Lined f
 
-pub record Record-found (s : List ℕ) (at : ℕ) (r : RecordAt) : Type 0 where
-  pub here : Where r.next (Record-is s at r.field r.next)
+module _ (s : List ℕ) (at time instrument stamp : ℕ) (f : Stamp-found s at time instrument stamp) (word : ℕ) (k : Field) (next : ℕ) where
+  pub trade-whole : Found s stamp 7 (ascii ",TRADE,") word → Trade-is s word time instrument k next → Record-is s at k next
+  trade-whole w t =
+      subst (λ (v : Field). Record-is s at v next) (sym t.is)
+      (record {
+        line = same_bytes (trade-line time instrument t.price t.lots) (then f.stamp.stands (then w.stands t.tail));
+        legible = (omega (arith, f.small), f.few, omega (arith, t.small), t.most);
+        lined = tt;
+      })
 
-pub no_record : (s : List ℕ) (at : ℕ) (r : RecordAt) → r.next ≡ 0 → Record-found s at r
-no_record s at r e = record { here = nowhere r.next e }
-
-module _ (s : List ℕ) (at : ℕ) (stamp : StampAt) (f : Stamp-found s at stamp) (m : stamp.next ≡ 0 → ⊥) (word : ℕ) where
-  module _ (w : Found s stamp.next 7 (ascii ",TRADE,") word) (q : word ≡ 0 → ⊥) where
-    trade-is : (k : Field) (next : ℕ) → Trade-is s word stamp.time stamp.instrument k next → Record-is s at k next
-    trade-is k next t =
-        subst (λ (v : Field). Record-is s at v next) (sym t.is)
-        (record {
-          line = same_bytes (trade-line stamp.time stamp.instrument t.price t.lots) (then (f.stamp.stands m) (then (w.stands q) t.tail));
-          legible = (omega (arith, f.small), f.few, omega (arith, t.small), t.most);
-          lined = tt;
-        })
-
-    pub trade-whole : (r : RecordAt) → Trade-found s word stamp.time stamp.instrument r → Record-found s at r
-    trade-whole r t = record { here = record { holds = λ k. trade-is r.field r.next (t.trade.holds k) } }
-
-  module _ (w : Found s stamp.next 7 (ascii ",QUOTE,") word) (q : word ≡ 0 → ⊥) where
-    quote-is : (k : Field) (next : ℕ) → Quote-is s word stamp.time stamp.instrument k next → Record-is s at k next
-    quote-is k next t =
-        let z = bits t.x t.y t.bits.0 t.bits.1 in
-        let bid = bit-there (has_bid (t.x + 2 * t.y)) t.x z.0 in
-        let offer = bit-there (has_offer (t.x + 2 * t.y)) t.y z.1 in
-        let tail = rw (bid, offer) at t.tail in
-        let low = rw bid at t.shown.0 in
-        let high = rw offer at t.shown.1 in
-        subst (λ (v : Field). Record-is s at v next) (sym t.is)
-        (record {
-          line = same_bytes (quote-line stamp.time stamp.instrument (t.x + 2 * t.y) t.bid t.offer) (then (f.stamp.stands m) (then (w.stands q) tail));
-          legible = (omega (arith, f.small), f.few, omega (arith, t.bits.0, t.bits.1), low, high);
-          lined = tt;
-        })
-
-    pub quote-whole : (r : RecordAt) → Quote-found s word stamp.time stamp.instrument r → Record-found s at r
-    quote-whole r t = record { here = record { holds = λ k. quote-is r.field r.next (t.quote.holds k) } }
+  pub quote-whole : Found s stamp 7 (ascii ",QUOTE,") word → Quote-is s word time instrument k next → Record-is s at k next
+  quote-whole w t =
+      let x = side_bit t.bid in
+      let y = side_bit t.offer in
+      let z = bits x y (side-bit t.bid) (side-bit t.offer) in
+      let bid = bit-there (has_bid (x + 2 * y)) x z.0 in
+      let offer = bit-there (has_offer (x + 2 * y)) y z.1 in
+      let tail = rw (bid, offer) at t.tail in
+      let low = rw bid at t.shown.0 in
+      let high = rw offer at t.shown.1 in
+      subst (λ (v : Field). Record-is s at v next) (sym t.is)
+      (record {
+        line = same_bytes (quote-line time instrument (x + 2 * y) (side_price t.bid) (side_price t.offer)) (then f.stamp.stands (then w.stands tail));
+        legible = (omega (arith, f.small), f.few, omega (arith, side-bit t.bid, side-bit t.offer), low, high);
+        lined = tt;
+      })

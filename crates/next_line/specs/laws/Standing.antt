@@ -12,18 +12,19 @@ pub record Stands (s : List ℕ) (at : ℕ) (p : List ℕ) (next : ℕ) : Type 0
   pub there : drop at s ≡ p ++ drop next s
   pub behind : next ≡ at + length p
 
--- a place that the code hands back: 0, or behind a piece of at most so many bytes
+-- a place that the code hands back, behind a piece of at most so many bytes
 pub record Found (s : List ℕ) (at most : ℕ) (p : List ℕ) (next : ℕ) : Type 0 where
-  pub stands : (next ≢ 0) → Stands s at p next
+  pub stands : Stands s at p next
   pub near : next ≤ at + most
 
 pub record Near (at most next : ℕ) : Type 0 where
   pub from : at ≤ next
   pub to : next ≤ at + most
 
--- what the digit at a place says; more than 9 where none stands there
+-- what the digit at a place says
 pub record Digit-at (s : List ℕ) (at r : ℕ) : Type 0 where
-  pub is : r ≤ 9 → slice_index s at ≡ digit r
+  pub is : slice_index s at ≡ digit r
+  pub small : r ≤ 9
 
 -- ---- pieces
 
@@ -49,11 +50,8 @@ stands-part s a e h g =
 
 -- ---- as the code hands them back
 
-pub found_none : (s : List ℕ) (at most : ℕ) (p : List ℕ) → Found s at most p 0
-found_none s at most p = record { stands = λ n. absurd (n refl); near = omega arith }
-
 pub found : {s p : List ℕ} {at most next : ℕ} → Stands s at p next → next ≤ at + most → Found s at most p next
-found x h = record { stands = λ n. x; near = h }
+found x h = record { stands = x; near = h }
 
 pub found-byte : (s : List ℕ) (at b : ℕ) → at < length s → slice_index s at ≡ b → Found s at 1 (b ∷ []) (at + 1)
 found-byte s at b h e = found (stands-byte s at b h e) (omega arith)
@@ -73,14 +71,14 @@ eight : (k : ℕ) → k < 9 → 10 ^ k ≤ 100000000
 eight k h = let ten : 0 < 10 = omega arith in let l : k ≤ 8 = omega arith in pow-le-pow_right ten l
 
 module _ (s : List ℕ) (at : ℕ) (room : at + 9 ≤ length s) where
-  single : (d : ℕ) → d ≤ 9 → Digit-at s at d → Stands s at (decimal d) (at + 1)
-  single d h e = same_bytes (sym (one 19 d (omega arith))) (stands-byte s at (digit d) (omega arith) (e.is h))
+  single : (d : ℕ) → Digit-at s at d → Stands s at (decimal d) (at + 1)
+  single d e = same_bytes (sym (one 19 d (omega (arith, e.small)))) (stands-byte s at (digit d) (omega arith) e.is)
 
-  pub number-zero : (d : ℕ) → Digit-at s at d → d ≤ 9 → d ≡ 0 → Found s at 9 (decimal 0) (at + 1)
-  number-zero d e h z = found (subst (λ (v : ℕ). Stands s at (decimal v) (at + 1)) z (single d h e)) (omega arith)
+  pub number-zero : (d : ℕ) → Digit-at s at d → d ≡ 0 → Found s at 9 (decimal 0) (at + 1)
+  number-zero d e z = found (subst (λ (v : ℕ). Stands s at (decimal v) (at + 1)) z (single d e)) (omega arith)
 
-  pub number-start : (d : ℕ) → Digit-at s at d → d ≤ 9 → (d ≢ 0) → OnNumber s at d 1
-  number-start d e h z = record { stands = single d h e; some = omega (arith, z); small = omega arith; short = omega arith }
+  pub number-start : (d : ℕ) → Digit-at s at d → (d ≢ 0) → OnNumber s at d 1
+  number-start d e z = record { stands = single d e; some = omega (arith, z); small = omega (arith, e.small); short = omega arith }
 
   module _ (n k : ℕ) (o : OnNumber s at n k) where
     pub number-end : Found s at 9 (decimal n) (at + k)
@@ -96,17 +94,18 @@ module _ (s : List ℕ) (at : ℕ) (room : at + 9 ≤ length s) where
       pub number-wide : Fits w32 (n * 10)
       number-wide = record { fits = omega (arith, o.small, eight k h) }
 
-      pub number_more : (d : ℕ) → d ≤ 9 → Fits w32 (n * 10 + d)
-      number_more d l = record { fits = omega (arith, o.small, eight k h) }
+      pub number_more : (d : ℕ) → Digit-at s (at + k) d → Fits w32 (n * 10 + d)
+      number_more d e = record { fits = omega (arith, o.small, e.small, eight k h) }
 
-      pub number-next : (d : ℕ) → Digit-at s (at + k) d → d ≤ 9 → OnNumber s at (n * 10 + d) (k + 1)
-      number-next d e l =
+      pub number-next : (d : ℕ) → Digit-at s (at + k) d → OnNumber s at (n * 10 + d) (k + 1)
+      number-next d e =
+          let l = e.small in
           let p : n < 10 ^ 19 = omega (arith, o.small, eight k h) in
           let z : at + k + 1 ≡ at + (k + 1) = omega arith in
           let q : 10 ^ (k + 1) ≡ 10 ^ k * 10 = rw add-one (pow-suc 10 k) in
           record {
             stands = subst (λ (v : ℕ). Stands s at (decimal (n * 10 + d)) v) z
-                (same_bytes (sym (longer n d o.some (omega arith) p)) (then o.stands (stands-byte s (at + k) (digit d) (omega arith) (e.is l))));
+                (same_bytes (sym (longer n d o.some (omega arith) p)) (then o.stands (stands-byte s (at + k) (digit d) (omega arith) e.is)));
             some = omega (arith, o.some);
             small = omega (arith, o.small, q);
             short = omega arith;

@@ -2,7 +2,7 @@
 --     reads-written    number most (decimal n) is n, for n up to most
 --     writes-read      bytes that say a number below most are that number's decimal
 -- Assumes nothing.
-use Rattle.std.specs.Prelude.{ℕ, zero, suc, ◌+◌, ◌-◌, ◌*◌, ◌/◌, ◌%◌, ◌^◌, ◌≤◌, ◌<◌, Bool, true, false, ◌≡◌, refl, List, [], ◌∷◌, ◌++◌, ltb, eqb, length, get_or}
+use Rattle.std.specs.Prelude.{ℕ, zero, suc, ◌+◌, ◌-◌, ◌*◌, ◌/◌, ◌%◌, ◌^◌, ◌≤◌, ◌<◌, Bool, true, false, ◌≡◌, refl, List, [], ◌∷◌, ◌++◌, ltb, eqb, length, get_or, Some}
 use Rattle.std.proofs.Common.{sym, ap, ◌∙◌, append-nil, append_assoc, pow-suc, div-lt_iff_lt-mul, mod-lt, div-add-mod', mod-eq_of_lt, arith, length-append, lt-ltb, le-ltb, le-leb, ne_eqb, ltb-true}
 use Rattle.std.proofs.Math.Nat.{mul-add-div_right, mul-add-mod_self_right, div-eq_of_lt}
 use Rattle.std.proofs.Math.Decide.{dec_le, dec_lt}
@@ -10,7 +10,6 @@ use Rattle.std.proofs.Math.ListN.{get_or-append}
 use Rattle.std.proofs.lemmas.Bool.{lt-leb, eqb-false, not-true}
 use Rattle.text.specs.Decimal.{digit, decimal_in, decimal}
 use Rattle.text.specs.laws.Decimal.{decimal-length}
-use Rattle.numerals.specs.declared.Number.TheVariants.{Value}
 use Rattle.numerals.specs.Numerals.{is_digit, risen, number_from, opens, number}
 use Rattle.numerals.specs.laws.Lacks.{lacks}
 use Rattle.numerals.specs.laws.Walk.{risen-most}
@@ -56,9 +55,9 @@ full-risen most b = by-test (dec_le (most * 10 + (b - 48)) most)
 -- what the first byte of digits says
 pub record Begun (most n a b : ℕ) (s : List ℕ) : Type 0 where
   pub is : is_digit b ≡ true
-  pub rest : number_from most (risen most a b) s ≡ Value n
+  pub rest : number_from most (risen most a b) s ≡ Some n
 
-pub begun : (most n a b : ℕ) (s : List ℕ) → number_from most a (b ∷ s) ≡ Value n → Begun most n a b s
+pub begun : (most n a b : ℕ) (s : List ℕ) → number_from most a (b ∷ s) ≡ Some n → Begun most n a b s
 unfolding number_from
 begun most n a b s e = by-test (is_digit b) refl
   where
@@ -66,22 +65,22 @@ begun most n a b s e = by-test (is_digit b) refl
     by-test true h = record { is = h; rest = simp h at e }
     by-test false h = let g = simp h at e in clash cc
 
-ended : (most n a : ℕ) → number_from most a [] ≡ Value n → a ≡ n
+ended : (most n a : ℕ) → number_from most a [] ≡ Some n → a ≡ n
 unfolding number_from
 ended most n a e = cc
 
 -- a number that has stopped rising stays
-full : (most n : ℕ) (s : List ℕ) → number_from most most s ≡ Value n → n ≡ most
+full : (most n : ℕ) (s : List ℕ) → number_from most most s ≡ Some n → n ≡ most
 full most n [] e = sym (ended most n most e)
 full most n (b ∷ s) e = full most n s (rw (full-risen most b) at (begun most n most b s e).rest)
 
 -- a number below most never stopped
 pub record Rose (most n a b : ℕ) (s : List ℕ) : Type 0 where
   pub digit : Digit b
-  pub rest : number_from most (a * 10 + (b - 48)) s ≡ Value n
+  pub rest : number_from most (a * 10 + (b - 48)) s ≡ Some n
   pub below : a * 10 + (b - 48) ≤ most
 
-pub rose : (most n a b : ℕ) (s : List ℕ) → number_from most a (b ∷ s) ≡ Value n → n < most → Rose most n a b s
+pub rose : (most n a b : ℕ) (s : List ℕ) → number_from most a (b ∷ s) ≡ Some n → n < most → Rose most n a b s
 rose most n a b s e l = by-test (dec_le (a * 10 + (b - 48)) most)
   where
     by-test : Dec (a * 10 + (b - 48) ≤ most) → Rose most n a b s
@@ -135,7 +134,7 @@ byte-back b h = omega arith
 
 -- ---- what was read is what would be written
 
-carried : (most n a : ℕ) (s : List ℕ) → most ≤ 10 ^ 19 → 1 ≤ a → a ≤ most → number_from most a s ≡ Value n → n < most → decimal a ++ s ≡ decimal n
+carried : (most n a : ℕ) (s : List ℕ) → most ≤ 10 ^ 19 → 1 ≤ a → a ≤ most → number_from most a s ≡ Some n → n < most → decimal a ++ s ≡ decimal n
 carried most n a [] m p q e l = append-nil (decimal a) ∙ ap decimal (ended most n a e)
 carried most n a (b ∷ s) m p q e l =
     let r = rose most n a b s e l in
@@ -143,15 +142,15 @@ carried most n a (b ∷ s) m p q e l =
     let u : decimal (a * 10 + (b - 48)) ≡ decimal a ++ b ∷ [] = longer a (b - 48) p d (omega (arith, r.below)) ∙ ap (λ (x : ℕ). decimal a ++ x ∷ []) (byte-back b r.digit) in
     sym (append_assoc (decimal a) (b ∷ []) s) ∙ ap (λ (v : List ℕ). v ++ s) (sym u) ∙ carried most n (a * 10 + (b - 48)) s m (omega arith) r.below r.rest l
 
-opened : (most n : ℕ) (s : List ℕ) → number most s ≡ Value n → (opens s ≡ true) × (number_from most 0 s ≡ Value n)
+opened : (most n : ℕ) (s : List ℕ) → number most s ≡ Some n → (opens s ≡ true) × (number_from most 0 s ≡ Some n)
 unfolding number
 opened most n s e = by-test (opens s) refl
   where
-    by-test : (t : Bool) → opens s ≡ t → (opens s ≡ true) × (number_from most 0 s ≡ Value n)
+    by-test : (t : Bool) → opens s ≡ t → (opens s ≡ true) × (number_from most 0 s ≡ Some n)
     by-test true h = (h, simp h at e)
     by-test false h = let g = simp h at e in clash cc
 
-first : (most n b : ℕ) (s : List ℕ) → number_from most 0 (b ∷ s) ≡ Value n → n < most → Digit b × (number_from most (b - 48) s ≡ Value n) × (b - 48 ≤ most)
+first : (most n b : ℕ) (s : List ℕ) → number_from most 0 (b ∷ s) ≡ Some n → n < most → Digit b × (number_from most (b - 48) s ≡ Some n) × (b - 48 ≤ most)
 first most n b s e l =
     let r = rose most n 0 b s e l in
     let z : 0 * 10 + (b - 48) ≡ b - 48 = omega arith in
@@ -160,7 +159,7 @@ first most n b s e l =
 alone : (b : ℕ) → Digit b → decimal (b - 48) ≡ b ∷ []
 alone b d = one 19 (b - 48) (omega (arith, d.high)) ∙ ap (λ (x : ℕ). x ∷ []) (byte-back b d)
 
-spelled : (most n : ℕ) (s : List ℕ) → most ≤ 10 ^ 19 → opens s ≡ true → number_from most 0 s ≡ Value n → n < most → decimal n ≡ s
+spelled : (most n : ℕ) (s : List ℕ) → most ≤ 10 ^ 19 → opens s ≡ true → number_from most 0 s ≡ Some n → n < most → decimal n ≡ s
 unfolding opens
 spelled most n [] m o e l = clash cc
 spelled most n (b ∷ []) m o e l =
@@ -176,7 +175,7 @@ spelled most n (b ∷ c ∷ s) m o e l =
     by-test z d (yes h) = h
     by-test z d (no h) = absurd (z (omega (arith, d.low)))
 
-pub writes-read : (most n : ℕ) (s : List ℕ) → most ≤ 10 ^ 19 → number most s ≡ Value n → n < most → decimal n ≡ s
+pub writes-read : (most n : ℕ) (s : List ℕ) → most ≤ 10 ^ 19 → number most s ≡ Some n → n < most → decimal n ≡ s
 writes-read most n s m e l = let o = opened most n s e in spelled most n s m o.0 o.1 l
 
 -- ---- what was written is read
@@ -185,29 +184,29 @@ on : (most a b : ℕ) (s : List ℕ) → is_digit b ≡ true → number_from mos
 unfolding number_from
 on most a b s h = simp h
 
-behind : (most a n : ℕ) (p q : List ℕ) → number_from most a p ≡ Value n → number_from most a (p ++ q) ≡ number_from most n q
+behind : (most a n : ℕ) (p q : List ℕ) → number_from most a p ≡ Some n → number_from most a (p ++ q) ≡ number_from most n q
 behind most a n [] q e = ap (λ (v : ℕ). number_from most v q) (ended most n a e)
 behind most a n (b ∷ p) q e =
     let g = begun most n a b p e in
     on most a b (p ++ q) g.is ∙ behind most (risen most a b) n p q g.rest
 
-last : (most a d : ℕ) → d < 10 → a * 10 + d ≤ most → number_from most a (digit d ∷ []) ≡ Value (a * 10 + d)
+last : (most a d : ℕ) → d < 10 → a * 10 + d ≤ most → number_from most a (digit d ∷ []) ≡ Some (a * 10 + d)
 unfolding number_from
 last most a d h l =
     let z : digit d - 48 ≡ d = omega arith in
     let g : risen most a (digit d) ≡ a * 10 + d = rises most a (digit d) (omega arith) ∙ ap (λ (v : ℕ). a * 10 + v) z in
     simp (digit-is d h, g)
 
-told : (k most n : ℕ) → n < 10 ^ suc k → n ≤ most → number_from most 0 (decimal_in (suc k) n) ≡ Value n
-told zero most n h l = rw (one 0 n (omega arith)) (last most 0 n (omega arith) (omega arith) ∙ ap Value (omega arith))
+told : (k most n : ℕ) → n < 10 ^ suc k → n ≤ most → number_from most 0 (decimal_in (suc k) n) ≡ Some n
+told zero most n h l = rw (one 0 n (omega arith)) (last most 0 n (omega arith) (omega arith) ∙ ap Some (omega arith))
 told (suc k) most n h l = by-test (told k most (n / 10) (tenth (suc k) n h) (omega (arith, div-add-mod' n 10))) (dec_lt n 10)
   where
-    by-test : number_from most 0 (decimal_in (suc k) (n / 10)) ≡ Value (n / 10) → Dec (n < 10) → number_from most 0 (decimal_in (suc (suc k)) n) ≡ Value n
-    by-test e (yes g) = rw (one (suc k) n g) (last most 0 n g (omega arith) ∙ ap Value (omega arith))
+    by-test : number_from most 0 (decimal_in (suc k) (n / 10)) ≡ Some (n / 10) → Dec (n < 10) → number_from most 0 (decimal_in (suc (suc k)) n) ≡ Some n
+    by-test e (yes g) = rw (one (suc k) n g) (last most 0 n g (omega arith) ∙ ap Some (omega arith))
     by-test e (no g) =
         let d : n % 10 < 10 = mod-lt n (omega arith) in
         rw (split (suc k) n (omega arith))
-        (behind most 0 (n / 10) (decimal_in (suc k) (n / 10)) (digit (n % 10) ∷ []) e ∙ last most (n / 10) (n % 10) d (omega (arith, div-add-mod' n 10)) ∙ ap Value (div-add-mod' n 10))
+        (behind most 0 (n / 10) (decimal_in (suc k) (n / 10)) (digit (n % 10) ∷ []) e ∙ last most (n / 10) (n % 10) d (omega (arith, div-add-mod' n 10)) ∙ ap Some (div-add-mod' n 10))
 
 -- it starts with a digit that is no zero
 pub record Leads (s : List ℕ) : Type 0 where
@@ -241,28 +240,28 @@ unfolding opens
 opens-decimal n h (yes p) = opens-lead (decimal n) (leads 19 n h p)
 opens-decimal n h (no p) = rw (one 19 n (omega arith)) refl
 
-pub reads-written : (most n : ℕ) → n < 10 ^ 20 → n ≤ most → number most (decimal n) ≡ Value n
+pub reads-written : (most n : ℕ) → n < 10 ^ 20 → n ≤ most → number most (decimal n) ≡ Some n
 unfolding number
 reads-written most n h l = simp (opens-decimal n h (dec_le 1 n)) (told 19 most n h l)
 
 -- ---- what holds of bytes that say a number
 
-most-from : (most a n : ℕ) (s : List ℕ) → a ≤ most → number_from most a s ≡ Value n → n ≤ most
+most-from : (most a n : ℕ) (s : List ℕ) → a ≤ most → number_from most a s ≡ Some n → n ≤ most
 most-from most a n [] h e = omega (arith, ended most n a e)
 most-from most a n (b ∷ s) h e = most-from most (risen most a b) n s (risen-most most a b) (begun most n a b s e).rest
 
-pub number-most : (most n : ℕ) (s : List ℕ) → number most s ≡ Value n → n ≤ most
+pub number-most : (most n : ℕ) (s : List ℕ) → number most s ≡ Some n → n ≤ most
 number-most most n s e = most-from most 0 n s (omega arith) (opened most n s e).1
 
-begins : (most n : ℕ) (s : List ℕ) → opens s ≡ true → number_from most 0 s ≡ Value n → Digit (get_or s 0 0)
+begins : (most n : ℕ) (s : List ℕ) → opens s ≡ true → number_from most 0 s ≡ Some n → Digit (get_or s 0 0)
 unfolding opens
 begins most n [] o e = clash cc
 begins most n (b ∷ s) o e = is_digit_lem b (begun most n 0 b s e).is
 
-pub number-first : (most n : ℕ) (s : List ℕ) → number most s ≡ Value n → Digit (get_or s 0 0)
+pub number-first : (most n : ℕ) (s : List ℕ) → number most s ≡ Some n → Digit (get_or s 0 0)
 number-first most n s e = let o = opened most n s e in begins most n s o.0 o.1
 
-lacks-from : (c most a n : ℕ) (s : List ℕ) → is_digit c ≡ false → number_from most a s ≡ Value n → lacks c s ≡ true
+lacks-from : (c most a n : ℕ) (s : List ℕ) → is_digit c ≡ false → number_from most a s ≡ Some n → lacks c s ≡ true
 lacks-from c most a n [] h e = refl
 lacks-from c most a n (b ∷ s) h e =
     let g = begun most n a b s e in
@@ -272,5 +271,5 @@ lacks-from c most a n (b ∷ s) h e =
     apart b c q x y = cc
 
 -- no byte but a digit
-pub number-lacks : (c most n : ℕ) (s : List ℕ) → is_digit c ≡ false → number most s ≡ Value n → lacks c s ≡ true
+pub number-lacks : (c most n : ℕ) (s : List ℕ) → is_digit c ≡ false → number most s ≡ Some n → lacks c s ≡ true
 number-lacks c most n s h e = lacks-from c most 0 n s h (opened most n s e).1

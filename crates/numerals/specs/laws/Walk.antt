@@ -1,5 +1,5 @@
 -- The cases of the definitions as the code meets them, and what holds as it walks the digits. Assumes nothing.
-use Rattle.std.specs.Prelude.{ℕ, ◌+◌, ◌-◌, ◌*◌, ◌≤◌, ◌<◌, Bool, true, false, not, cond, ◌≡◌, List, [], ◌∷◌, leb, ltb, eqb, length, get_or, drop}
+use Rattle.std.specs.Prelude.{ℕ, ◌+◌, ◌-◌, ◌*◌, ◌≤◌, ◌<◌, Bool, true, false, not, cond, ◌≡◌, List, [], ◌∷◌, leb, ltb, eqb, length, get_or, drop, Some, None}
 use Rattle.std.proofs.Math.Path.{refl}
 use Rattle.std.proofs.Common.{sym, ◌∙◌, add-one}
 use Rattle.std.proofs.Math.Decide.{dec_le}
@@ -7,7 +7,6 @@ use native.Mathlib.Omega.{arith}
 use Rattle.std.proofs.Math.ListN.{drop_of_length-le}
 use Rattle.std.proofs.Math.Seq.{drop-cons}
 use borrow.Author.Tests.{not-true, not-false, lt-ltb, le-ltb, le-leb, lt-leb}
-use Rattle.numerals.specs.declared.Number.TheVariants.{Value, Malformed}
 use Rattle.numerals.specs.Numerals.{is_digit, risen, number_from, opens, number}
 
 pub digit_low : (b : ℕ) → b < 48 → false ≡ is_digit b
@@ -59,7 +58,7 @@ pub record OnDigits (most : ℕ) (s : List ℕ) (n i : ℕ) : Type 0 where
   pub small : n ≤ most
 
 module _ (most : ℕ) (s : List ℕ) where
-  pub shut : (r : Bool) → r ≡ opens s → not r ≡ true → Malformed ≡ number most s
+  pub shut : (r : Bool) → r ≡ opens s → not r ≡ true → None ≡ number most s
   unfolding number
   shut r q e = simp (sym q, not-true r e)
 
@@ -67,7 +66,7 @@ module _ (most : ℕ) (s : List ℕ) where
   unfolding number
   at-start r q e = record { rest = simp (sym q, not-false r e); inside = omega arith; small = omega arith }
 
-  pub at-bad : (n i : ℕ) (r : Bool) → OnDigits most s n i → i < length s → r ≡ is_digit (get_or s i 0) → not r ≡ true → Malformed ≡ number most s
+  pub at-bad : (n i : ℕ) (r : Bool) → OnDigits most s n i → i < length s → r ≡ is_digit (get_or s i 0) → not r ≡ true → None ≡ number most s
   unfolding number_from
   at-bad n i r o h q e = rw (o.rest, drop-cons s i 0 h) (simp (sym q, not-true r e))
 
@@ -79,6 +78,6 @@ module _ (most : ℕ) (s : List ℕ) where
     small = rw q (risen-most most n (get_or s i 0));
   }
 
-  pub at-end : (n i : ℕ) → OnDigits most s n i → length s ≤ i → Value n ≡ number most s
+  pub at-end : (n i : ℕ) → OnDigits most s n i → length s ≤ i → Some n ≡ number most s
   unfolding number_from
   at-end n i o h = rw (o.rest, drop_of_length-le s h) refl

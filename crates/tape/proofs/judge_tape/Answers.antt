@@ -1,24 +1,33 @@
 -- `tape::judge_tape` meets its contract. Assumes nothing.
-use Rattle.tape.specs.laws.Track.{t-start, t-last, t-bad, t-stop, t-ends, t-next, t-less, t-counts}
-use borrow.Author.Rules.{rules}
+use Rattle.std.specs.Prelude.{◌≡◌, Ok, Some}
+use Rattle.std.proofs.Common.{ap, ◌∙◌}
+use Rattle.tape.specs.laws.Track.{t-last, t-bad, t-stop, t-ends, t-next, t-less}
 use Rattle.tape.proofs.judge_tape.Goals as goal
+use Rattle.tape.proofs.judge_tape.Goals.{In-Ok-Some}
 
-ruleset judging = (t-start, t-last, t-bad, t-stop, t-ends, t-next, t-less, t-counts, rules)
+-- the field that was read, and the place behind its line
+read : (c : In-Ok-Some) → c.next_line.result ≡ Ok (Some (c.in-Ok-Some.field, c.in-Ok-Some.next))
+read c = c.in-Ok-Some.is ∙ ap Ok c.in-Ok-Some.field-0-is
 
-pub returns-in-Last : goal.returns-in-Last
-returns-in-Last c = search judging
+pub returns-in-Ok-None : goal.returns-in-Ok-None
+returns-in-Ok-None c =
+    t-last _ _ _ _ _ c.loop-field.invariant _ c.next_line.ensures (c.in-Ok-None.is ∙ ap Ok c.in-Ok-None.field-0-is) _ c.at_last.ensures
 
-pub returns-in-Malformed : goal.returns-in-Malformed
-returns-in-Malformed c = search judging
+pub returns-in-Err : goal.returns-in-Err
+returns-in-Err c = t-bad _ _ _ _ _ c.loop-field.invariant _ c.next_line.ensures _ c.in-Err.is
 
 pub returns-in-Refused : goal.returns-in-Refused
-returns-in-Refused c = search judging
+returns-in-Refused c =
+    t-stop _ _ _ _ _ c.loop-field.invariant _ c.next_line.ensures _ _ (read (goal.at.returns-in-Refused c).In-Ok-Some) _ c.capped_at.ensures _ c.admit.ensures _ c.in-Refused.is
 
 pub returns-in-Ended : goal.returns-in-Ended
-returns-in-Ended c = search judging
+returns-in-Ended c =
+    t-ends _ _ _ _ _ c.loop-field.invariant _ c.next_line.ensures _ _ (read (goal.at.returns-in-Ended c).In-Ok-Some) _ c.capped_at.ensures _ c.admit.ensures c.in-Ended.is
 
 pub loop-field-smaller : goal.loop-field-smaller
-loop-field-smaller c = search judging
+loop-field-smaller c =
+    t-less _ _ _ _ _ c.loop-field.invariant _ c.next_line.ensures _ _ (read (goal.at.loop-field-smaller c).In-Ok-Some)
 
 pub loop-field-preserved : goal.loop-field-preserved
-loop-field-preserved c = search judging
+loop-field-preserved c =
+    t-next _ _ _ _ _ c.loop-field.invariant _ c.next_line.ensures _ _ (read (goal.at.loop-field-preserved c).In-Ok-Some) _ c.capped_at.ensures _ c.admit.ensures _ _ c.in-Next.is c.grown_by-bytes.ensures

@@ -1,5 +1,5 @@
 -- What the lines of an accepted text were: each a field that may come next, and behind the last line feed nothing. Assumes nothing.
-use Rattle.std.specs.Prelude.{ℕ, ◌≤◌, Bool, true, false, cond, ◌≡◌, refl, List, [], ◌∷◌, ◌++◌, eqb}
+use Rattle.std.specs.Prelude.{ℕ, ◌≤◌, Bool, true, false, cond, ◌≡◌, refl, List, [], ◌∷◌, ◌++◌, eqb, Option, Some, None}
 use Rattle.std.proofs.Common.{ap, ◌∙◌, append_assoc, arith, eqb-true}
 use Rattle.std.proofs.lemmas.Bool.{eqb-false}
 use Rattle.numerals.specs.laws.Numerals.{clash}
@@ -8,8 +8,6 @@ use Rattle.field.specs.declared.Field.TheVariants as F
 use Rattle.field.specs.Layout.{tag_of}
 use Rattle.admit.specs.declared.Progress.{Progress}
 use Rattle.admit.specs.Admitting.{Step, goes, ends, stops, admit}
-use Rattle.line_reader.specs.declared.Line.{Line}
-use Rattle.line_reader.specs.declared.Line.TheVariants as L
 use Rattle.line_reader.specs.Lines.{line_of}
 use Rattle.line_reader.specs.laws.Trips.{Lined}
 use Rattle.tape.specs.Tape.{LinesSay, tells, bad, with, capped, at_last, onward, say_line, line_text, text_of}
@@ -30,11 +28,11 @@ closed line size p fs e = by-test (eqb size 0) refl (eqb p.stage 0) refl e
     by-test false h u k g = clash cc
 
 -- what a line was
-pub record Took (p : Progress) (l : Line) (later : Progress → LinesSay) (fs : List Field) : Type 0 where
+pub record Took (p : Progress) (l : Option Field) (later : Progress → LinesSay) (fs : List Field) : Type 0 where
   pub f : Field
   pub r : Progress
   pub gs : List Field
-  pub said : l ≡ L.Field f
+  pub said : l ≡ Some f
   pub goes_on : admit (capped p) f ≡ goes r
   pub after : later r ≡ tells gs
   pub are : fs ≡ f ∷ gs
@@ -43,16 +41,16 @@ with-tells : (f : Field) (t : LinesSay) (fs : List Field) → with f t ≡ tells
 with-tells f (tells gs) fs e = (gs, refl, cc)
 with-tells f (bad number line) fs e = clash cc
 
-went_on : (line : ℕ) (p : Progress) (f : Field) (t : Step) (later : Progress → LinesSay) (fs : List Field) → admit (capped p) f ≡ t → onward line f t later ≡ tells fs → Took p (L.Field f) later fs
+went_on : (line : ℕ) (p : Progress) (f : Field) (t : Step) (later : Progress → LinesSay) (fs : List Field) → admit (capped p) f ≡ t → onward line f t later ≡ tells fs → Took p (Some f) later fs
 unfolding onward
 went_on line p f (goes r) later fs a e = let w = with-tells f (later r) fs e in record { f = f; r = r; gs = w.0; said = refl; goes_on = a; after = w.1; are = w.2 }
 went_on line p f ends later fs a e = clash cc
 went_on line p f (stops number) later fs a e = clash cc
 
-pub took : (line : ℕ) (p : Progress) (l : Line) (later : Progress → LinesSay) (fs : List Field) → say_line line p l later ≡ tells fs → Took p l later fs
+pub took : (line : ℕ) (p : Progress) (l : Option Field) (later : Progress → LinesSay) (fs : List Field) → say_line line p l later ≡ tells fs → Took p l later fs
 unfolding say_line
-took line p (L.Field f) later fs e = went_on line p f (admit (capped p) f) later fs refl e
-took line p L.Malformed later fs e = clash cc
+took line p (Some f) later fs e = went_on line p f (admit (capped p) f) later fs refl e
+took line p None later fs e = clash cc
 
 -- ---- a field that is no end has a line
 

@@ -1,5 +1,5 @@
 -- Laws of the judge's loop. The premises are the facts as they stand in the code. Assumes nothing.
-use Rattle.std.specs.Prelude.{ℕ, ◌+◌, ◌-◌, ◌≤◌, ◌<◌, ◌≡◌, refl, length, drop}
+use Rattle.std.specs.Prelude.{ℕ, ◌+◌, ◌-◌, ◌≤◌, ◌<◌, ◌≡◌, refl, length, drop, Option, Some, None, Ok, Err}
 use Rattle.std.proofs.Common.{sym, ◌∙◌, arith}
 use Rattle.std.proofs.Math.Path.{ap}
 use mathlib.Core.List.{List}
@@ -10,11 +10,8 @@ use Rattle.admit.specs.declared.Admitted.{Admitted}
 use Rattle.admit.specs.declared.Admitted.TheVariants as A
 use Rattle.admit.specs.Admitting.{start, admit, admit_says}
 use Rattle.items.specs.Items.{first, rest}
-use Rattle.line_reader.specs.declared.Line.{Line}
-use Rattle.line_reader.specs.declared.Line.TheVariants as L
-use Rattle.next_line.specs.declared.NextLine.{NextLine}
-use Rattle.next_line.specs.declared.NextLine.TheVariants as N
-use Rattle.next_line.specs.laws.Next.{next_line, Goes, was-last, was_field, was-bad}
+use Rattle.next_line.specs.declared.Malformed.{Malformed}
+use Rattle.next_line.specs.laws.Next.{Next, next_line, Goes, was-last, was_field, was-bad}
 use Rattle.tape.specs.declared.Measured.{Measured}
 use Rattle.tape.specs.declared.Measured.TheVariants.{Bytes, Refused}
 use Rattle.tape.specs.Tape.{capped, at_last, onward, say_line, say_lines, text_says}
@@ -55,25 +52,25 @@ pub record OnTape (s : List ℕ) (at line bytes : ℕ) (p : Progress) : Type 0 w
 pub t-start : (s : List ℕ) (p : Progress) → p ≡ start → OnTape s 0 1 0 p
 t-start s p e = rw e (record { same = refl; within = omega arith; lines = omega arith; small = omega arith })
 
-module _ (s : List ℕ) (at line bytes : ℕ) (p : Progress) (o : OnTape s at line bytes p) (r : NextLine) (q : r ≡ next_line s at) where
-  pub t-last : r ≡ N.Last → (m : Measured) → m ≡ measured bytes (at_last line p (length s - at)) → m ≡ measured 0 (text_says s)
+module _ (s : List ℕ) (at line bytes : ℕ) (p : Progress) (o : OnTape s at line bytes p) (r : Next) (q : r ≡ next_line s at) where
+  pub t-last : r ≡ Ok None → (m : Measured) → m ≡ measured bytes (at_last line p (length s - at)) → m ≡ measured 0 (text_says s)
   unfolding say_lines
   t-last d m w =
       let e = was-last s at r q d in
       w ∙ ap (λ (v : ℕ). measured bytes (at_last line p v)) (sym e.size) ∙ ap (λ (ls : List (List ℕ)). measured bytes (say_lines line p (first 10 (drop at s)) ls)) (sym e.none) ∙ o.same
 
-  here : (l : Line) (next : ℕ) → Goes s at l next → measured bytes (say_line line p l (λ x. say_lines (line + 1) x (first 10 (drop next s)) (rest 10 (drop next s)))) ≡ measured 0 (text_says s)
+  here : (l : Option Field) (next : ℕ) → Goes s at l next → measured bytes (say_line line p l (λ x. say_lines (line + 1) x (first 10 (drop next s)) (rest 10 (drop next s)))) ≡ measured 0 (text_says s)
   unfolding say_lines
   here l next g =
-      ap (λ (v : Line). measured bytes (say_line line p v (λ x. say_lines (line + 1) x (first 10 (drop next s)) (rest 10 (drop next s))))) (sym g.line)
+      ap (λ (v : Option Field). measured bytes (say_line line p v (λ x. say_lines (line + 1) x (first 10 (drop next s)) (rest 10 (drop next s))))) (sym g.line)
       ∙ ap (λ (ls : List (List ℕ)). measured bytes (say_lines line p (first 10 (drop at s)) ls)) (sym g.later) ∙ o.same
 
-  pub t-bad : r ≡ N.Malformed → Refused 17 line ≡ measured 0 (text_says s)
+  pub t-bad : (e : Malformed) → r ≡ Err e → Refused 17 line ≡ measured 0 (text_says s)
   unfolding say_line
-  t-bad d = here _ _ (was-bad s at r q d)
+  t-bad e d = here _ _ (was-bad s at r q e d)
 
-  module _ (f : Field) (next : ℕ) (d : r ≡ N.Field f next) where
-    went : Goes s at (L.Field f) next
+  module _ (f : Field) (next : ℕ) (d : r ≡ Ok (Some (f, next))) where
+    went : Goes s at (Some f) next
     went = was_field s at r q f next d
 
     pub t-less : length s - next < length s - at

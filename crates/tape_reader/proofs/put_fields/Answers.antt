@@ -1,27 +1,37 @@
 -- `tape_reader::put_fields` meets its contract: each goal is a law of the loop. Assumes nothing.
+use Rattle.std.specs.Prelude.{◌≡◌, Ok, Some}
+use Rattle.std.proofs.Common.{ap, ◌∙◌, rules}
 use Rattle.tape_reader.specs.laws.Laying.{lay-start, lay-length, lay-end, lay-bad, lay-room, lay-next, lay-counts, lay-less}
-use borrow.Author.Rules.{rules}
 use Rattle.tape_reader.proofs.put_fields.Goals as goal
+use Rattle.tape_reader.proofs.put_fields.Goals.{In-Ok-Some}
 
-ruleset laying = (lay-start, lay-length, lay-end, lay-bad, lay-room, lay-next, lay-counts, lay-less, rules)
+ruleset laying = (lay-start, lay-length, rules)
+
+-- the field that was read, and the place behind its line
+read : (c : In-Ok-Some) → c.next_line.result ≡ Ok (Some (c.in-Ok-Some.field, c.in-Ok-Some.next))
+read c = c.in-Ok-Some.is ∙ ap Ok c.in-Ok-Some.field-0-is
 
 pub loop-field-init : goal.loop-field-init
 loop-field-init c = search laying
 
-pub returns-in-Last : goal.returns-in-Last
-returns-in-Last c = search laying
+pub returns-in-Ok-None : goal.returns-in-Ok-None
+returns-in-Ok-None c = lay-end _ _ _ _ _ _ c.loop-field.invariant _ c.next_line.ensures (c.in-Ok-None.is ∙ ap Ok c.in-Ok-None.field-0-is)
 
-pub returns-in-Malformed : goal.returns-in-Malformed
-returns-in-Malformed c = search laying
+pub returns-in-Err : goal.returns-in-Err
+returns-in-Err c = lay-bad _ _ _ _ _ _ c.loop-field.invariant _ c.next_line.ensures _ c.in-Err.is
 
 pub put_at-at-requires : goal.put_at-at-requires
-put_at-at-requires c = search laying
+put_at-at-requires c =
+    lay-room _ _ _ _ _ _ c.loop-field.invariant _ c.next_line.ensures (read (goal.at.put_at-at-requires c).In-Ok-Some)
 
 pub overflow_add-count : goal.overflow_add-count
-overflow_add-count c = search laying
+overflow_add-count c =
+    lay-counts _ _ _ _ _ _ c.loop-field.invariant _ c.next_line.ensures (read (goal.at.overflow_add-count c).In-Ok-Some)
 
 pub loop-field-smaller : goal.loop-field-smaller
-loop-field-smaller c = search laying
+loop-field-smaller c =
+    lay-less _ _ _ _ _ _ c.loop-field.invariant _ c.next_line.ensures (read (goal.at.loop-field-smaller c).In-Ok-Some)
 
 pub loop-field-preserved : goal.loop-field-preserved
-loop-field-preserved c = search laying
+loop-field-preserved c =
+    lay-next _ _ _ _ _ _ c.loop-field.invariant _ c.next_line.ensures (read (goal.at.loop-field-preserved c).In-Ok-Some) c.put_at-at.ensures

@@ -1,5 +1,5 @@
 -- What holds as the fields of an accepted text are laid into the buffer, and what the answers of `tape_to_sheet` are. Assumes nothing.
-use Rattle.std.specs.Prelude.{ℕ, ◌+◌, ◌-◌, ◌≤◌, ◌<◌, ◌≡◌, length, drop}
+use Rattle.std.specs.Prelude.{ℕ, ◌+◌, ◌-◌, ◌≤◌, ◌<◌, ◌≡◌, length, drop, Option, Some, None, Ok, Err}
 use Rattle.std.proofs.Math.Path.{refl, ap}
 use Rattle.std.proofs.Common.{sym, ◌∙◌, subst, arith, length-append, le-leb, Fits}
 use mathlib.Core.List.{List, [], ◌∷◌, ◌++◌, append_assoc, append-nil}
@@ -15,11 +15,8 @@ use Rattle.admit.specs.declared.Progress.{Progress}
 use Rattle.admit.specs.Admitting.{start}
 use Rattle.sheet.specs.Fields.{encode}
 use Rattle.items.specs.Items.{first, rest}
-use Rattle.line_reader.specs.declared.Line.{Line}
-use Rattle.line_reader.specs.declared.Line.TheVariants as L
-use Rattle.next_line.specs.declared.NextLine.{NextLine}
-use Rattle.next_line.specs.declared.NextLine.TheVariants as N
-use Rattle.next_line.specs.laws.Next.{next_line, Goes, was-last, was_field, was-bad}
+use Rattle.next_line.specs.declared.Malformed.{Malformed}
+use Rattle.next_line.specs.laws.Next.{Next, next_line, Goes, was-last, was_field, was-bad}
 use Rattle.tape.specs.declared.Measured.{Measured}
 use Rattle.tape.specs.declared.Measured.TheVariants.{Bytes, Refused}
 use Rattle.filled_buffer.specs.declared.Filled.{Filled}
@@ -98,29 +95,29 @@ lay-start x b f = record {
 none_left : (fs gs : List Field) → gs ≡ [] → fs ++ gs ≡ fs
 none_left fs gs e = ap (λ (v : List Field). fs ++ v) e ∙ append-nil fs
 
-module _ (x b₀ : List ℕ) (from at count : ℕ) (b : List ℕ) (o : Laying x b₀ from at count b) (r : NextLine) (q : r ≡ next_line x from) where
-  pub lay-end : r ≡ N.Last → Laid_out x b₀ (record { at = at; count = count }) b
+module _ (x b₀ : List ℕ) (from at count : ℕ) (b : List ℕ) (o : Laying x b₀ from at count b) (r : Next) (q : r ≡ next_line x from) where
+  pub lay-end : r ≡ Ok None → Laid_out x b₀ (record { at = at; count = count }) b
   unfolding say_lines
   lay-end d =
       let e = was-last x from r q d in
       let c = closed o.line (length (first 10 (drop from x))) o.p o.later (ap (say_lines o.line o.p (first 10 (drop from x))) (sym e.none) ∙ o.left) in
       record { fields = o.done; says = o.says ∙ ap tells (none_left o.done o.later c.none); place = o.place; number = o.number; bytes = o.bytes }
 
-  took-here : (l : Line) (next : ℕ) → Goes x from l next → Took o.p l (λ p. say_lines (o.line + 1) p (first 10 (drop next x)) (rest 10 (drop next x))) o.later
+  took-here : (l : Option Field) (next : ℕ) → Goes x from l next → Took o.p l (λ p. say_lines (o.line + 1) p (first 10 (drop next x)) (rest 10 (drop next x))) o.later
   unfolding say_lines
   took-here l next g =
       took o.line o.p l _ o.later
-      (ap (λ (v : Line). say_line o.line o.p v (λ p. say_lines (o.line + 1) p (first 10 (drop next x)) (rest 10 (drop next x)))) (sym g.line)
+      (ap (λ (v : Option Field). say_line o.line o.p v (λ p. say_lines (o.line + 1) p (first 10 (drop next x)) (rest 10 (drop next x)))) (sym g.line)
       ∙ ap (say_lines o.line o.p (first 10 (drop from x))) (sym g.later) ∙ o.left)
 
-  pub lay-bad : r ≡ N.Malformed → Laid_out x b₀ (record { at = at; count = count }) b
-  lay-bad d = let k = took-here _ _ (was-bad x from r q d) in let z = k.said in clash cc
+  pub lay-bad : (e : Malformed) → r ≡ Err e → Laid_out x b₀ (record { at = at; count = count }) b
+  lay-bad e d = let k = took-here _ _ (was-bad x from r q e d) in let z = k.said in clash cc
 
-  module _ {f : Field} {next : ℕ} (d : r ≡ N.Field f next) where
-    went : Goes x from (L.Field f) next
+  module _ {f : Field} {next : ℕ} (d : r ≡ Ok (Some (f, next))) where
+    went : Goes x from (Some f) next
     went = was_field x from r q f next d
 
-    took_it : Took o.p (L.Field f) (λ p. say_lines (o.line + 1) p (first 10 (drop next x)) (rest 10 (drop next x))) o.later
+    took_it : Took o.p (Some f) (λ p. say_lines (o.line + 1) p (first 10 (drop next x)) (rest 10 (drop next x))) o.later
     took_it = took-here _ _ went
 
     pub lay-less : length x - next < length x - from

@@ -1,5 +1,5 @@
 -- Two pieces one after the other are their join, whether they fit or not. Assumes nothing.
-use Rattle.std.specs.Prelude.{ℕ, ◌≤◌, ◌<◌, ◌≡◌, refl, List, [], ◌++◌, length}
+use Rattle.std.specs.Prelude.{ℕ, ◌≤◌, ◌<◌, ◌≡◌, refl, List, [], ◌++◌, length, Option, Some}
 use Rattle.std.proofs.Common.{sym, ap, ◌∙◌, append_assoc, arith, length-append, le-leb}
 use Rattle.std.proofs.Math.Decide.{dec_le}
 use Rattle.std.proofs.lemmas.Bool.{lt-leb}
@@ -26,11 +26,37 @@ unfolding ◌⊕◌
 ⊕-⊕ (Has a) s t = fit-⊕ (a ++ s) t ∙ ap fit (append_assoc a s t)
 ⊕-⊕ TooLong s t = refl
 
-pub empty_holds : held empty_text ≡ Has []
-unfolding held
+pub empty_holds : held (Some empty_text) ≡ Has []
 empty_holds = refl
 
 -- a text that starts empty holds the pieces, where they have at most 512 bytes
 pub whole : (s : List ℕ) → length s ≤ 512 → Has [] ⊕ s ≡ Has s
 unfolding ◌⊕◌
 whole s h = fit-yes s h
+
+-- ---- as the code puts one piece behind another: the next piece, and a piece that did not fit, behind which nothing more is put
+
+module _ (t s : List ℕ) where
+  pub then_put : (u v : List ℕ) (r : Option (List ℕ)) → Has u ≡ Has t ⊕ s → held r ≡ Has u ⊕ v → held r ≡ Has t ⊕ (s ++ v)
+  then_put u v r e f = f ∙ ap (λ (h : Held). h ⊕ v) e ∙ ⊕-⊕ (Has t) s v
+
+  pub then_none : (v : List ℕ) → TooLong ≡ Has t ⊕ s → TooLong ≡ Has t ⊕ (s ++ v)
+  unfolding ◌⊕◌
+  then_none v e = ap (λ (h : Held). h ⊕ v) e ∙ ⊕-⊕ (Has t) s v
+
+-- ---- a text that was put together is short
+
+fit-short : (s r : List ℕ) → Dec (length s ≤ 512) → Has r ≡ fit s → length r ≤ 512
+fit-short s r (yes h) e = let g : Has r ≡ Has s = e ∙ fit-yes s h in let q : r ≡ s = cc in rw q h
+fit-short s r (no h) e = let g : Has r ≡ TooLong = e ∙ fit-no s (omega arith) in absurd (has≢none r g)
+  where
+    has≢none : (r : List ℕ) → Has r ≡ TooLong → ⊥
+    has≢none r g = cc
+
+pub put_short : (h : Held) (s r : List ℕ) → Has r ≡ h ⊕ s → length r ≤ 512
+unfolding ◌⊕◌
+put_short (Has a) s r e = fit-short (a ++ s) r (dec_le (length (a ++ s)) 512) e
+put_short TooLong s r e = absurd (no_text r e)
+  where
+    no_text : (r : List ℕ) → Has r ≡ TooLong → ⊥
+    no_text r g = cc

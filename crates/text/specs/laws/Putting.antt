@@ -1,9 +1,7 @@
 -- Pieces put one behind the other into a lent buffer are their join put at once. Assumes nothing.
-use Rattle.std.specs.Prelude.{ℕ, ◌+◌, ◌≤◌, true, ◌≡◌, List, [], ◌++◌, length, take, drop}
+use Rattle.std.specs.Prelude.{ℕ, ◌+◌, ◌≤◌, true, ◌≡◌, List, [], ◌++◌, length, take, drop, Option, Some, None}
 use Rattle.std.proofs.Common.{sym, ap, ◌∙◌, subst, append_assoc, append-nil, arith, length-append, length-drop, take-append-drop, length-take-le, drop-drop, le-leb}
 use Rattle.std.proofs.Math.Seq.{take-append_seam, drop-append_seam}
-use Rattle.text.specs.declared.Put.{Put}
-use Rattle.text.specs.declared.Put.TheVariants.{Next, Full}
 use Rattle.text.specs.Over.{over, fits, put_place, put_buffer}
 
 -- where the buffer has room for s at the place, it has s there, and the place behind it is handed back
@@ -58,19 +56,19 @@ pub same_bytes : {b s t b' : List ℕ} {at r : ℕ} → s ≡ t → Puts b at s 
 same_bytes {b} {s} {t} {b'} {at} {r} e p = subst (λ (v : List ℕ). Puts b at v r b') e p
 
 -- what `put_bytes` says, as the code takes it apart
-next-is : (m n : ℕ) → Next m ≡ Next n → m ≡ n
+next-is : (m n : ℕ) → Some m ≡ Some n → m ≡ n
 next-is m n e = cc
 
-pub put_next : (b s b' : List ℕ) (at n : ℕ) {r : Put} → r ≡ put_place b at s → b' ≡ put_buffer b at s → r ≡ Next n → Puts b at s n b'
+pub put_next : (b s b' : List ℕ) (at n : ℕ) {r : Option ℕ} → r ≡ put_place b at s → b' ≡ put_buffer b at s → r ≡ Some n → Puts b at s n b'
 put_next b s b' at n e f g h =
     let yes : fits b at s ≡ true = le-leb (at + length s) (length b) h in
-    let w : Next n ≡ Next (at + length s) = sym g ∙ e ∙ simp yes in
+    let w : Some n ≡ Some (at + length s) = sym g ∙ e ∙ simp yes in
     record { next = next-is n (at + length s) w; bytes = f ∙ simp yes }
 
-pub put_full : (b s b' : List ℕ) (at : ℕ) {r : Put} → r ≡ put_place b at s → r ≡ Full → Puts b at s at b'
+pub put_full : (b s b' : List ℕ) (at : ℕ) {r : Option ℕ} → r ≡ put_place b at s → r ≡ None → Puts b at s at b'
 put_full b s b' at e g h =
     let yes : fits b at s ≡ true = le-leb (at + length s) (length b) h in
-    let w : Full ≡ Next (at + length s) = sym g ∙ e ∙ simp yes in
+    let w : None ≡ Some (at + length s) = sym g ∙ e ∙ simp yes in
     let z : ◌≡◌ {A = ℕ} 0 1 = cc in
     absurd (omega arith)
 
