@@ -1,7 +1,7 @@
 -- `list::answers_text` meets its contract: the pieces that were put, as one text behind no bytes. Assumes nothing.
 use Rattle.std.specs.Prelude.{◌≡◌, None, List, [], ◌∷◌, ◌++◌, ℕ}
 use Rattle.std.proofs.Common.{sym, ap, ◌∙◌, append_assoc}
-use Rattle.text.specs.Held.{Held, Has, ◌⊕◌}
+use Rattle.text.specs.Held.{Has, ◌⊕◌}
 use Rattle.text.specs.laws.Held.{then_put, then_none, whole}
 use Rattle.sheet.specs.declared.Day.{Day}
 use Rattle.price_rules.specs.declared.SixAnswers.{SixAnswers}

@@ -1,5 +1,5 @@
 -- `list::sheet_text` meets its contract. Assumes nothing.
-use Rattle.std.specs.Prelude.{◌≡◌, List, [], ◌∷◌}
+use Rattle.std.specs.Prelude.{[], ◌∷◌}
 use Rattle.std.proofs.Common.{sym, ap, ◌∙◌, arith}
 use Rattle.text.specs.Held.{Has, ◌⊕◌}
 use Rattle.text.specs.laws.Held.{whole}
