@@ -4,16 +4,16 @@
 ghost use Rattle.std.specs.Prelude.{◌≡◌, ◌+◌, ◌≤◌, length};
 ghost use Rattle.text.specs.Over.{over};
 ghost use Rattle.field.specs.Layout.{field_bytes};
+ghost use Rattle.field.specs.Said.{written_says};
 ghost use Rattle.filled_buffer.specs.Filling.{buffer_with, filled};
 ghost use Rattle.tape.specs.Tape.{tape_to_sheet};
 ghost use Rattle.tape_reader.specs.laws.Laying.{Fitting, Laid_out, Sheeted};
 
 use field::layout::{size_of, tag_of};
-use field::{Field, number};
-use filled_buffer::Filled;
-use next_line::{Malformed, next_line};
+use field::{Fault, Field, Refusal};
+use next_line::next_line;
 use raw_writer::put_field;
-use tape::{Measured, judge_tape};
+use tape::judge_tape;
 
 // What the fields of a text came to: the place behind them, and how many they are.
 #[derive(Clone, Copy)]
@@ -39,21 +39,12 @@ fn put_fields(text: &[u8], sheet: &mut [u8]) -> Laid
     let mut from = 0;
     let mut at = 0;
     let mut count: u32 = 0;
-    loop {
-        match next_line(text, from) {
-            Ok(None) => {
-                return Laid { at, count };
-            }
-            Err(Malformed) => {
-                return Laid { at, count };
-            }
-            Ok(Some((field, next))) => {
-                at = put_at(sheet, at, field);
-                count += 1;
-                from = next;
-            }
-        }
+    while let Ok(Some((field, next))) = next_line(text, from) {
+        at = put_at(sheet, at, field);
+        count += 1;
+        from = next;
     }
+    Laid { at, count }
 }
 
 // The fields and a right end behind them.
@@ -65,22 +56,24 @@ fn put_sheet(text: &[u8], sheet: &mut [u8])
     put_at(sheet, laid.at, Field::End { count: laid.count });
 }
 
-// The sheet of a text at the start of the buffer, by its length; or the number of a refusal with its line, 0 where no line earns it.
-pub fn tape_to_sheet(text: &[u8], sheet: &mut [u8]) -> Filled
-    ensures { (result ≡ filled (tape_to_sheet (length sheet.old) text.now)) × (sheet.new ≡ buffer_with sheet.old (tape_to_sheet (length sheet.old) text.now)) }
+// The sheet of a text at the start of the buffer, by its length; or a refusal with its line, 0 where no line earns it.
+pub fn tape_to_sheet(text: &[u8], sheet: &mut [u8]) -> Result<usize, Refusal>
+    ensures { (written_says result ≡ filled (tape_to_sheet (length sheet.old) text.now)) × (sheet.new ≡ buffer_with sheet.old (tape_to_sheet (length sheet.old) text.now)) }
 {
-    match judge_tape(text) {
-        Measured::Refused(found, line) => Filled::Refused(found, line),
-        Measured::Bytes(bytes) => {
-            if 1_048_569 < bytes {
-                return Filled::Refused(number::LONG, 0);
-            }
-            let len = bytes as usize + 7;
-            if sheet.len() < len {
-                return Filled::Refused(number::ROOM, 0);
-            }
-            put_sheet(text, sheet);
-            Filled::Whole(len)
-        }
+    let bytes = judge_tape(text)?;
+    if 1_048_569 < bytes {
+        return Err(Refusal {
+            fault: Fault::Long,
+            at: 0,
+        });
     }
+    let len = bytes as usize + 7;
+    if sheet.len() < len {
+        return Err(Refusal {
+            fault: Fault::Room,
+            at: 0,
+        });
+    }
+    put_sheet(text, sheet);
+    Ok(len)
 }

@@ -3,16 +3,16 @@
 
 ghost use Rattle.std.specs.Prelude.{◌≡◌, ◌≤◌, leb, length};
 ghost use Rattle.text.specs.Over.{over};
+ghost use Rattle.field.specs.Said.{written_says};
 ghost use Rattle.sheet.specs.Fields.{fields_of};
 ghost use Rattle.filled_buffer.specs.Filling.{made, in_room, buffer_with, filled};
 ghost use Rattle.tape.specs.Tape.{line_text, text_of, sheet_to_tape};
 ghost use Rattle.tape_writer.specs.laws.Lining.{Readable};
 
-use field::{Field, Read, number};
+use field::{Fault, Field, Refusal};
 use field_reader::shape_at;
-use filled_buffer::Filled;
 use line_writer::put_line;
-use sheet::{Judged, judge_sheet};
+use sheet::judge_sheet;
 
 // How many bytes a field's line has: it is written into a scratch of its own.
 fn line_length(field: Field) -> usize
@@ -30,7 +30,7 @@ fn text_length(sheet: &[u8]) -> usize
 {
     let mut from = 0;
     let mut len = 0;
-    while let Read::Field(field, next) = shape_at(sheet, from) {
+    while let Ok((field, next)) = shape_at(sheet, from) {
         len += line_length(field);
         from = next;
     }
@@ -52,7 +52,7 @@ fn put_lines(sheet: &[u8], tape: &mut [u8]) -> usize
 {
     let mut from = 0;
     let mut at = 0;
-    while let Read::Field(field, next) = shape_at(sheet, from) {
+    while let Ok((field, next)) = shape_at(sheet, from) {
         at = put_line(tape, at, field);
         from = next;
     }
@@ -60,22 +60,23 @@ fn put_lines(sheet: &[u8], tape: &mut [u8]) -> usize
 }
 
 // The text of an accepted sheet, where there is room.
-fn put_text(sheet: &[u8], tape: &mut [u8]) -> Filled
+fn put_text(sheet: &[u8], tape: &mut [u8]) -> Result<usize, Refusal>
     requires { Readable sheet.now }
-    ensures { (result ≡ filled (in_room (length tape.old) (made (text_of (fields_of sheet.now))))) × (tape.new ≡ buffer_with tape.old (in_room (length tape.old) (made (text_of (fields_of sheet.now))))) }
+    ensures { (written_says result ≡ filled (in_room (length tape.old) (made (text_of (fields_of sheet.now))))) × (tape.new ≡ buffer_with tape.old (in_room (length tape.old) (made (text_of (fields_of sheet.now))))) }
 {
     if has_room(sheet, tape.len()) {
-        return Filled::Whole(put_lines(sheet, tape));
+        return Ok(put_lines(sheet, tape));
     }
-    Filled::Refused(number::ROOM, 0)
+    Err(Refusal {
+        fault: Fault::Room,
+        at: 0,
+    })
 }
 
-// The text of a sheet at the start of the buffer, by its length; or the number of a refusal and its byte, 0 where the buffer has no room.
-pub fn sheet_to_tape(sheet: &[u8], tape: &mut [u8]) -> Filled
-    ensures { (result ≡ filled (sheet_to_tape (length tape.old) sheet.now)) × (tape.new ≡ buffer_with tape.old (sheet_to_tape (length tape.old) sheet.now)) }
+// The text of a sheet at the start of the buffer, by its length; or a refusal and its byte, 0 where the buffer has no room.
+pub fn sheet_to_tape(sheet: &[u8], tape: &mut [u8]) -> Result<usize, Refusal>
+    ensures { (written_says result ≡ filled (sheet_to_tape (length tape.old) sheet.now)) × (tape.new ≡ buffer_with tape.old (sheet_to_tape (length tape.old) sheet.now)) }
 {
-    match judge_sheet(sheet) {
-        Judged::Accepted(_) => put_text(sheet, tape),
-        Judged::Refused(found, byte) => Filled::Refused(found, byte),
-    }
+    judge_sheet(sheet)?;
+    put_text(sheet, tape)
 }

@@ -1,95 +1,37 @@
 -- What judging a text finds out before a byte is written: the bytes of its fields, or the first bad line. Assumes nothing.
-use Rattle.std.specs.Prelude.{ℕ, ◌+◌, ◌≤◌, ◌<◌, cond, ◌≡◌, refl, List, [], ◌∷◌, ◌++◌, leb, length}
-use Rattle.std.proofs.Common.{sym, ap, ◌∙◌, append_assoc, append-nil, arith, length-append, le-leb, Fits}
-use Rattle.std.proofs.Math.Decide.{dec_le}
-use Rattle.std.proofs.lemmas.Bool.{lt-leb}
-use Rattle.std.specs.Int.{w64}
-use Rattle.field.specs.declared.Form.TheVariants.{Short, Long}
+use Rattle.std.specs.Prelude.{ℕ, ◌+◌, ◌≤◌, ◌<◌, ◌≡◌, refl, List, [], ◌∷◌, ◌++◌, min, length}
+use Rattle.std.proofs.Common.{sym, ap, ◌∙◌, append_assoc, append-nil, arith, length-append}
 use Rattle.field.specs.declared.Field.{Field}
 use Rattle.field.specs.declared.Field.TheVariants as F
 use Rattle.field.specs.Layout.{size_of, tag_of, field_bytes, body_bytes}
 use Rattle.field.specs.laws.Field.{field-length}
 use Rattle.sheet.specs.Fields.{encode}
-use Rattle.tape.specs.declared.Measured.{Measured}
-use Rattle.tape.specs.declared.Measured.TheVariants.{Bytes, Refused}
+use Rattle.field.specs.Said.{Said, gives, refuses}
 use Rattle.tape.specs.Tape.{LinesSay, tells, bad, with, sheet_of}
 
 -- a number that stops at one above the limit
-unfoldable pub stop_at : ℕ → ℕ
-stop_at n = cond (leb n 1048577) n 1048577
+abbrev pub stop_at : ℕ → ℕ
+stop_at n = min n 1048577
 
 -- the bytes with a field more
 abbrev pub grown : ℕ → Field → ℕ
 grown bytes f = stop_at (bytes + size_of (tag_of f))
 
 -- so many bytes, and those of the fields that lines say
-abbrev pub measured : ℕ → LinesSay → Measured
-measured bytes (tells fs) = Bytes (stop_at (bytes + length (encode fs)))
-measured bytes (bad number line) = Refused number line
-
--- ---- stopping
-
-pub within : (n : ℕ) → n ≤ 1048577 → stop_at n ≡ n
-unfolding stop_at
-within n h = simp (le-leb n 1048577 h)
-
-pub beyond : (n : ℕ) → 1048577 ≤ n → stop_at n ≡ 1048577
-unfolding stop_at
-beyond n h = by-test (dec_le n 1048577)
-  where
-    by-test : Dec (n ≤ 1048577) → cond (leb n 1048577) n 1048577 ≡ 1048577
-    by-test (yes g) = simp (le-leb n 1048577 g) (omega arith)
-    by-test (no g) = simp (lt-leb n 1048577 (omega arith))
-
-pub stop-most : (n : ℕ) → stop_at n ≤ 1048577
-stop-most n = by-test (dec_le n 1048577)
-  where
-    by-test : Dec (n ≤ 1048577) → stop_at n ≤ 1048577
-    by-test (yes h) = rw (within n h) h
-    by-test (no h) = rw (beyond n (omega arith)) (omega arith)
-
-stop-twice : (n k : ℕ) → stop_at (stop_at n + k) ≡ stop_at (n + k)
-stop-twice n k = by-test (dec_le n 1048577)
-  where
-    by-test : Dec (n ≤ 1048577) → stop_at (stop_at n + k) ≡ stop_at (n + k)
-    by-test (yes h) = ap (λ (v : ℕ). stop_at (v + k)) (within n h)
-    by-test (no h) = ap (λ (v : ℕ). stop_at (v + k)) (beyond n (omega arith)) ∙ beyond (1048577 + k) (omega arith) ∙ sym (beyond (n + k) (omega arith))
+abbrev pub measured : ℕ → LinesSay → Said (Unit {0})
+measured bytes (tells fs) = gives tt (stop_at (bytes + length (encode fs)))
+measured bytes (bad number line) = refuses number line
 
 -- a field more is its bytes more
 pub measured-with : (bytes : ℕ) (f : Field) (t : LinesSay) → measured bytes (with f t) ≡ measured (grown bytes f) t
 unfolding encode
 measured-with bytes f (tells fs) =
-    let z : bytes + length (encode (f ∷ fs)) ≡ bytes + size_of (tag_of f) + length (encode fs) = omega (arith, length-append (field_bytes f) (encode fs), field-length f) in
-    ap (λ (n : ℕ). Bytes (stop_at n)) z ∙ ap Bytes (sym (stop-twice (bytes + size_of (tag_of f)) (length (encode fs))))
+    ap (gives tt) (omega (arith, length-append (field_bytes f) (encode fs), field-length f))
 measured-with bytes f (bad number line) = refl
 
-pub measured-none : (bytes : ℕ) → bytes ≤ 1048577 → Bytes bytes ≡ measured bytes (tells [])
+pub measured-none : (bytes : ℕ) → bytes ≤ 1048577 → gives tt bytes ≡ measured bytes (tells [])
 unfolding encode
-measured-none bytes h = let z : bytes + 0 ≡ bytes = omega arith in ap Bytes (sym (ap stop_at z ∙ within bytes h))
-
--- ---- as the code adds a field's bytes
-
-size_small : (f : Field) → size_of (tag_of f) ≤ 17
-unfolding tag_of
-size_small (F.Header metal marks Short) = omega arith
-size_small (F.Header metal marks (Long third)) = omega arith
-size_small (F.PreviousClose instrument p) = omega arith
-size_small (F.Trade time instrument p lots) = omega arith
-size_small (F.Quote time instrument sides bid offer) = omega arith
-size_small (F.End count) = omega arith
-
-module _ (bytes : ℕ) (f : Field) (t n : ℕ) (e : t ≡ tag_of f) (q : n ≡ size_of t) where
-  is-size : n ≡ size_of (tag_of f)
-  is-size = q ∙ ap (λ (v : ℕ). size_of v) e
-
-  pub grown-fits : bytes < 4294967296 → Fits w64 (bytes + n)
-  grown-fits h = record { fits = omega (arith, is-size, size_small f) }
-
-  pub grown-low : bytes + n ≤ 1048577 → bytes + n ≡ grown bytes f
-  grown-low h = sym (ap (λ (v : ℕ). stop_at (bytes + v)) (sym is-size) ∙ within (bytes + n) h)
-
-  pub grown-high : 1048577 < bytes + n → 1048577 ≡ grown bytes f
-  grown-high h = sym (ap (λ (v : ℕ). stop_at (bytes + v)) (sym is-size) ∙ beyond (bytes + n) (omega arith))
+measured-none bytes h = ap (gives tt) (omega arith)
 
 -- ---- the bytes of fields
 
@@ -117,20 +59,13 @@ end-long n = refl
 pub sheet-long : (fs : List Field) (n : ℕ) → length (encode (fs ++ F.End n ∷ [])) ≡ length (encode fs) + 7
 sheet-long fs n = ap length (encode_one fs (F.End n)) ∙ length-append (encode fs) (field_bytes (F.End n)) ∙ ap (λ (k : ℕ). length (encode fs) + k) (end-long n)
 
-bytes-are : (a b : ℕ) → Bytes a ≡ Bytes b → a ≡ b
-bytes-are a b e = cc
-
 -- the bytes that were measured say whether the sheet, its end with it, is within the limit, and how long it is
-pub measured-low : (fs : List Field) (bytes : ℕ) → Bytes bytes ≡ measured 0 (tells fs) → bytes ≤ 1048569 → length (sheet_of fs) ≡ bytes + 7
-measured-low fs bytes e h = sheet-long fs (length fs) ∙ by-test (dec_le (length (encode fs)) 1048577)
-  where
-    by-test : Dec (length (encode fs) ≤ 1048577) → length (encode fs) + 7 ≡ bytes + 7
-    by-test (yes g) = omega (arith, bytes-are _ _ e, within (0 + length (encode fs)) (omega arith))
-    by-test (no g) = absurd (omega (arith, bytes-are _ _ e, beyond (0 + length (encode fs)) (omega arith)))
+module _ (fs : List Field) (bytes : ℕ) (e : gives tt bytes ≡ measured 0 (tells fs)) where
+  bytes-are : bytes ≡ stop_at (0 + length (encode fs))
+  bytes-are = cc
 
-pub measured-high : (fs : List Field) (bytes : ℕ) → Bytes bytes ≡ measured 0 (tells fs) → 1048569 < bytes → 1048576 < length (sheet_of fs)
-measured-high fs bytes e h = by-test (dec_le (length (encode fs)) 1048577)
-  where
-    by-test : Dec (length (encode fs) ≤ 1048577) → 1048576 < length (sheet_of fs)
-    by-test (yes g) = omega (arith, bytes-are _ _ e, within (0 + length (encode fs)) (omega arith), sheet-long fs (length fs))
-    by-test (no g) = omega (arith, sheet-long fs (length fs))
+  pub measured-low : bytes ≤ 1048569 → length (sheet_of fs) ≡ bytes + 7
+  measured-low h = omega (arith, bytes-are, sheet-long fs (length fs))
+
+  pub measured-high : 1048569 < bytes → 1048576 < length (sheet_of fs)
+  measured-high h = omega (arith, bytes-are, sheet-long fs (length fs))

@@ -1,5 +1,5 @@
 -- `tape_reader::put_fields` meets its contract: each goal is a law of the loop. Assumes nothing.
-use Rattle.std.specs.Prelude.{◌≡◌, Ok, Some}
+use Rattle.std.specs.Prelude.{◌≡◌, Ok, Some, None}
 use Rattle.std.proofs.Common.{ap, ◌∙◌, rules}
 use Rattle.tape_reader.specs.laws.Laying.{lay-start, lay-length, lay-end, lay-bad, lay-room, lay-next, lay-counts, lay-less}
 use Rattle.tape_reader.proofs.put_fields.Goals as goal
@@ -14,11 +14,13 @@ read c = c.in-Ok-Some.is ∙ ap Ok c.in-Ok-Some.field-0-is
 pub loop-field-init : goal.loop-field-init
 loop-field-init c = search laying
 
-pub returns-in-Ok-None : goal.returns-in-Ok-None
-returns-in-Ok-None c = lay-end _ _ _ _ _ _ c.loop-field.invariant _ c.next_line.ensures (c.in-Ok-None.is ∙ ap Ok c.in-Ok-None.field-0-is)
+pub returns-in_default : goal.returns-in_default
+returns-in_default c =
+    let none : c.next_line.result ≡ Ok None = search rules in
+    lay-end _ _ _ _ _ _ c.loop-field.invariant _ c.next_line.ensures none
 
-pub returns-in-Err : goal.returns-in-Err
-returns-in-Err c = lay-bad _ _ _ _ _ _ c.loop-field.invariant _ c.next_line.ensures _ c.in-Err.is
+pub returns-in_default-2 : goal.returns-in_default-2
+returns-in_default-2 c = lay-bad _ _ _ _ _ _ c.loop-field.invariant _ c.next_line.ensures _ c.in_default.is
 
 pub put_at-at-requires : goal.put_at-at-requires
 put_at-at-requires c =

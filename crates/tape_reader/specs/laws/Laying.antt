@@ -1,5 +1,5 @@
 -- What holds as the fields of an accepted text are laid into the buffer, and what the answers of `tape_to_sheet` are. Assumes nothing.
-use Rattle.std.specs.Prelude.{ℕ, ◌+◌, ◌-◌, ◌≤◌, ◌<◌, ◌≡◌, length, drop, Option, Some, None, Ok, Err}
+use Rattle.std.specs.Prelude.{ℕ, ◌+◌, ◌-◌, ◌≤◌, ◌<◌, ◌≡◌, length, drop, Option, Some, None, Result, Ok, Err}
 use Rattle.std.proofs.Math.Path.{refl, ap}
 use Rattle.std.proofs.Common.{sym, ◌∙◌, subst, arith, length-append, le-leb, Fits}
 use mathlib.Core.List.{List, [], ◌∷◌, ◌++◌, append_assoc, append-nil}
@@ -17,9 +17,9 @@ use Rattle.sheet.specs.Fields.{encode}
 use Rattle.items.specs.Items.{first, rest}
 use Rattle.next_line.specs.declared.Malformed.{Malformed}
 use Rattle.next_line.specs.laws.Next.{Next, next_line, Goes, was-last, was_field, was-bad}
-use Rattle.tape.specs.declared.Measured.{Measured}
-use Rattle.tape.specs.declared.Measured.TheVariants.{Bytes, Refused}
-use Rattle.filled_buffer.specs.declared.Filled.{Filled}
+use Rattle.field.specs.declared.Refusal.{Refusal}
+use Rattle.field.specs.declared.Fault.TheVariants.{Long, Room}
+use Rattle.field.specs.Said.{gives, refuses, fault_number, written_says}
 use Rattle.filled_buffer.specs.Filling.{made, refused, in_room}
 use Rattle.filled_buffer.specs.laws.Filling.{Answers, answers}
 use Rattle.tape.specs.Tape.{LinesSay, tells, bad, say_line, say_lines, text_says, sheet_of, sheet_made, tape_to_sheet}
@@ -110,6 +110,7 @@ module _ (x b₀ : List ℕ) (from at count : ℕ) (b : List ℕ) (o : Laying x 
       (ap (λ (v : Option Field). say_line o.line o.p v (λ p. say_lines (o.line + 1) p (first 10 (drop next x)) (rest 10 (drop next x)))) (sym g.line)
       ∙ ap (say_lines o.line o.p (first 10 (drop from x))) (sym g.later) ∙ o.left)
 
+  -- none of an accepted text is malformed
   pub lay-bad : (e : Malformed) → r ≡ Err e → Laid_out x b₀ (record { at = at; count = count }) b
   lay-bad e d = let k = took-here _ _ (was-bad x from r q e d) in let z = k.said in clash cc
 
@@ -199,31 +200,31 @@ sheet-laid x b b' b'' laid {n} o f u =
 
 -- ---- the answers
 
-refused-is : (t : LinesSay) (number line : ℕ) → Refused number line ≡ measured 0 t → t ≡ bad number line
+refused-is : (t : LinesSay) (number line : ℕ) → refuses number line ≡ measured 0 t → t ≡ bad number line
 refused-is (tells fs) number line e = clash cc
 refused-is (bad n l) number line e = cc
 
-told-fields : (t : LinesSay) (bytes : ℕ) → Bytes bytes ≡ measured 0 t → (fs : List Field) × (t ≡ tells fs)
+told-fields : (t : LinesSay) (bytes : ℕ) → gives tt bytes ≡ measured 0 t → (fs : List Field) × (t ≡ tells fs)
 told-fields (tells fs) bytes e = (fs, refl)
 told-fields (bad number line) bytes e = clash cc
 
-module _ (x b : List ℕ) {m : Measured} (q : m ≡ measured 0 (text_says x)) where
-  pub line_refused : (number line : ℕ) → m ≡ Refused number line → Answers (tape_to_sheet (length b) x) b (Filled.Refused number line) b
+module _ (x b : List ℕ) {m : Result ℕ Refusal} (q : written_says m ≡ measured 0 (text_says x)) where
+  pub line_refused : {refusal : Refusal} → m ≡ Err refusal → (r : Result ℕ Refusal) → written_says r ≡ refuses (fault_number refusal.fault) refusal.at → Answers (tape_to_sheet (length b) x) b r b
   unfolding sheet_made in_room
-  line_refused number line d =
-      answers b b _ (tape_to_sheet (length b) x) (refused number line) (ap (λ (t : LinesSay). in_room (length b) (sheet_made t)) (refused-is (text_says x) number line (sym d ∙ q))) refl refl
+  line_refused {refusal} d r e =
+      answers b b r (tape_to_sheet (length b) x) (refused (fault_number refusal.fault) refusal.at) (ap (λ (t : LinesSay). in_room (length b) (sheet_made t)) (refused-is (text_says x) (fault_number refusal.fault) refusal.at (sym (ap written_says d) ∙ q))) e refl
 
-  module _ (bytes : ℕ) (d : m ≡ Bytes bytes) where
+  module _ (bytes : ℕ) (d : m ≡ Ok bytes) where
     those : (fs : List Field) × (text_says x ≡ tells fs)
-    those = told-fields (text_says x) bytes (sym d ∙ q)
+    those = told-fields (text_says x) bytes (sym (ap written_says d) ∙ q)
 
-    counted : Bytes bytes ≡ measured 0 (tells those.0)
-    counted = sym d ∙ q ∙ ap (measured 0) those.1
+    counted : gives tt bytes ≡ measured 0 (tells those.0)
+    counted = sym (ap written_says d) ∙ q ∙ ap (measured 0) those.1
 
-    pub long-refused : 1048569 < bytes → Answers (tape_to_sheet (length b) x) b (Filled.Refused 1 0) b
+    pub long-refused : 1048569 < bytes → Answers (tape_to_sheet (length b) x) b (Err (record { fault = Long; at = 0 })) b
     unfolding sheet_made in_room
     long-refused h =
-        answers b b _ (tape_to_sheet (length b) x) (refused 1 0)
+        answers b b (Err (record { fault = Long; at = 0 })) (tape_to_sheet (length b) x) (refused 1 0)
         (ap (λ (t : LinesSay). in_room (length b) (sheet_made t)) those.1 ∙ simp (lt-leb (length (sheet_of those.0)) 1048576 (measured-high those.0 bytes counted h))) refl refl
 
     module _ (h : bytes ≤ 1048569) where
@@ -234,18 +235,18 @@ module _ (x b : List ℕ) {m : Measured} (q : m ≡ measured 0 (text_says x)) wh
       unfolding sheet_made
       is_made = ap sheet_made those.1 ∙ simp (le-leb (length (sheet_of those.0)) 1048576 (omega (arith, size)))
 
-      pub room-refused : length b < bytes + 7 → Answers (tape_to_sheet (length b) x) b (Filled.Refused 16 0) b
+      pub room-refused : length b < bytes + 7 → Answers (tape_to_sheet (length b) x) b (Err (record { fault = Room; at = 0 })) b
       unfolding in_room
-      room-refused g = answers b b _ (tape_to_sheet (length b) x) (refused 16 0) (ap (in_room (length b)) is_made ∙ simp (lt-leb (length (sheet_of those.0)) (length b) (omega (arith, size)))) refl refl
+      room-refused g = answers b b (Err (record { fault = Room; at = 0 })) (tape_to_sheet (length b) x) (refused 16 0) (ap (in_room (length b)) is_made ∙ simp (lt-leb (length (sheet_of those.0)) (length b) (omega (arith, size)))) refl refl
 
       pub fitting : bytes + 7 ≤ length b → Fitting x b
       fitting g = record { fields = those.0; says = those.1; room = omega (arith, size); small = omega (arith, size) }
 
-      pub whole : bytes + 7 ≤ length b → {b' : List ℕ} → Sheeted x b b' → Answers (tape_to_sheet (length b) x) b (Filled.Whole (bytes + 7)) b'
+      pub whole : bytes + 7 ≤ length b → {b' : List ℕ} → Sheeted x b b' → Answers (tape_to_sheet (length b) x) b (Ok (bytes + 7)) b'
       unfolding in_room
       whole g {b'} s =
           let same : s.fields ≡ those.0 = told_is s.fields those.0 (sym s.says ∙ those.1) in
-          answers b b' _ (tape_to_sheet (length b) x) (made (sheet_of those.0))
+          answers b b' (Ok (bytes + 7)) (tape_to_sheet (length b) x) (made (sheet_of those.0))
           (ap (in_room (length b)) is_made ∙ simp (le-leb (length (sheet_of those.0)) (length b) (omega (arith, size))))
-          (ap Filled.Whole (sym size))
+          (ap (gives tt) (sym size))
           (s.bytes ∙ ap (λ (fs : List Field). over b 0 (sheet_of fs)) same)

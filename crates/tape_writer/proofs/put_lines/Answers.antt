@@ -7,7 +7,7 @@ use Rattle.tape_writer.proofs.put_lines.Goals as goal
 ruleset lining = (line-start, line-length, line-stop, line-room, line-next, less-read, rules)
 
 pub returns : goal.returns
-returns c = line-stop _ _ _ _ _ c.loop-field.invariant c.shape_at.ensures c.in_default.not-Field
+returns c = line-stop _ _ _ _ _ c.loop-field.invariant c.shape_at.ensures c.in_default.not-Ok
 
 pub loop-field-init : goal.loop-field-init
 loop-field-init c = search lining

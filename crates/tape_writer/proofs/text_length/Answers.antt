@@ -10,7 +10,7 @@ pub loop-field-init : goal.loop-field-init
 loop-field-init c = search lining
 
 pub returns : goal.returns
-returns c = len-stop _ _ _ c.loop-field.invariant c.shape_at.ensures c.in_default.not-Field
+returns c = len-stop _ _ _ c.loop-field.invariant c.shape_at.ensures c.in_default.not-Ok
 
 pub line_length-len-requires : goal.line_length-len-requires
 line_length-len-requires c = search lining

@@ -1,5 +1,5 @@
 -- What holds as the lines of a sheet's fields are measured and put into the buffer, and what the answers of `sheet_to_tape` are. Assumes nothing.
-use Rattle.std.specs.Prelude.{ℕ, ◌+◌, ◌*◌, ◌≤◌, Bool, true, false, ◌≡◌, List, [], ◌∷◌, ◌++◌, leb, length}
+use Rattle.std.specs.Prelude.{ℕ, ◌+◌, ◌*◌, ◌≤◌, Bool, true, false, ◌≡◌, List, [], ◌∷◌, ◌++◌, leb, length, Result, Ok, Err}
 use Rattle.std.proofs.Math.Path.{refl}
 use Rattle.std.proofs.Common.{sym, ap, ◌∙◌, append_assoc, append-nil, arith, length-append, leb-true, Fits}
 use Rattle.std.specs.Int.{w64}
@@ -7,20 +7,17 @@ use Rattle.text.specs.Over.{over}
 use Rattle.text.specs.laws.Putting.{Wrote, over-length, then}
 use Rattle.wire.specs.Big.{Bytes}
 use Rattle.field.specs.declared.Field.{Field}
-use Rattle.field.specs.declared.Read.{Read}
-use Rattle.field.specs.declared.Read.TheVariants as R
-use Rattle.field.specs.Said.{read_says}
+use Rattle.field.specs.declared.Refusal.{Refusal}
+use Rattle.field.specs.declared.Fault.TheVariants.{Room}
+use Rattle.field.specs.Said.{gives, read_says}
 use Rattle.field.specs.Reading.{shape_at}
 use Rattle.field.specs.Judging.{alone}
 use Rattle.field.proofs.Sound.{Sound}
 use Rattle.sheet.specs.declared.Day.{Day}
-use Rattle.sheet.specs.declared.Judged.{Judged}
-use Rattle.sheet.specs.declared.Judged.TheVariants as J
 use Rattle.sheet.specs.Fields.{fields_at, fields_of, Each}
 use Rattle.sheet.specs.Judgement.{accepts, judge_sheet, judged_says}
 use Rattle.sheet.specs.laws.Accepted.{accepted-sound, accepted-small}
 use Rattle.sheet.specs.laws.Passes.{Sofar, sofar-start, sofar-stop, sofar-next, sofar-here}
-use Rattle.filled_buffer.specs.declared.Filled.{Filled}
 use Rattle.filled_buffer.specs.Filling.{made, refused, in_room}
 use Rattle.filled_buffer.specs.laws.Filling.{Answers, answers}
 use Rattle.tape.specs.Tape.{line_text, text_of}
@@ -66,21 +63,21 @@ len-most : (s : List ℕ) (at len : ℕ) → Sofar text_long s at len → len �
 len-most s at len o = omega (arith, o.same, ap length (ap text_of o.split ∙ text-join o.before (fields_at s at)), length-append (text_of o.before) (text_of (fields_at s at)))
 
 -- what no field was read from is refused
-no_field : (r : Read) → ((f : Field) (next : ℕ) → r ≡ R.Field f next → ⊥) → (number place : ℕ) × (r ≡ R.Refused number place)
-no_field (R.Field f next) h = absurd (h f next refl)
-no_field (R.Refused number place) h = (number, place, refl)
+no_field : (r : Result (Field × ℕ) Refusal) → ((x : Field × ℕ) → r ≡ Ok x → ⊥) → (refusal : Refusal) × (r ≡ Err refusal)
+no_field (Ok x) h = absurd (h x refl)
+no_field (Err refusal) h = (refusal, refl)
 
-module _ (s : List ℕ) (at len : ℕ) (o : Sofar text_long s at len) {r : Read} (e : read_says r ≡ shape_at s at) where
-  pub len-stop : ((f : Field) (next : ℕ) → r ≡ R.Field f next → ⊥) → len ≡ text_long (fields_of s)
-  len-stop h = sofar-stop text_long s at len o e (no_field r h).2
+module _ (s : List ℕ) (at len : ℕ) (o : Sofar text_long s at len) {r : Result (Field × ℕ) Refusal} (e : read_says r ≡ shape_at s at) where
+  pub len-stop : ((x : Field × ℕ) → r ≡ Ok x → ⊥) → len ≡ text_long (fields_of s)
+  len-stop h = sofar-stop text_long s at len o e (no_field r h).1
 
-  pub len-next : {f : Field} {next n : ℕ} → r ≡ R.Field f next → n ≡ length (line_text f) → Sofar text_long s next (len + n)
+  pub len-next : {f : Field} {next n : ℕ} → r ≡ Ok (f, next) → n ≡ length (line_text f) → Sofar text_long s next (len + n)
   len-next {f} {next} {n} d q = sofar-next text_long s at len o e (λ a f. a + length (line_text f)) long-one d (ap (λ (v : ℕ). len + v) q)
 
-  pub len-line : Readable s → {f : Field} {next : ℕ} → r ≡ R.Field f next → length (line_text f) ≤ 64
+  pub len-line : Readable s → {f : Field} {next : ℕ} → r ≡ Ok (f, next) → length (line_text f) ≤ 64
   len-line k d = sofar-here text_long s at len o e (λ f. length (line_text f) ≤ 64) k.lines d
 
-  pub len-fits : Readable s → {f : Field} {next n : ℕ} → r ≡ R.Field f next → n ≡ length (line_text f) → Fits w64 (len + n)
+  pub len-fits : Readable s → {f : Field} {next n : ℕ} → r ≡ Ok (f, next) → n ≡ length (line_text f) → Fits w64 (len + n)
   len-fits k {f} {next} {n} d q = record { fits = omega (arith, len-most s next (len + n) (len-next d q), k.whole, k.small) }
 
 -- ---- putting
@@ -106,13 +103,13 @@ module _ (s b₀ : List ℕ) (from at : ℕ) (b : List ℕ) (o : Lining s b₀ f
   pub line-length : length b ≡ length b₀
   line-length = ap length o.bytes ∙ over-length b₀ (text_of o.done) 0 (omega (arith, done-most s from o.done o.sofar, o.room))
 
-  module _ {r : Read} (e : read_says r ≡ shape_at s from) where
-    pub line-stop : ((f : Field) (next : ℕ) → r ≡ R.Field f next → ⊥) → (at ≡ text_long (fields_of s)) × (b ≡ over b₀ 0 (text_of (fields_of s)))
+  module _ {r : Result (Field × ℕ) Refusal} (e : read_says r ≡ shape_at s from) where
+    pub line-stop : ((x : Field × ℕ) → r ≡ Ok x → ⊥) → (at ≡ text_long (fields_of s)) × (b ≡ over b₀ 0 (text_of (fields_of s)))
     line-stop h =
-        let all : o.done ≡ fields_of s = sofar-stop (λ fs. fs) s from o.done o.sofar e (no_field r h).2 in
+        let all : o.done ≡ fields_of s = sofar-stop (λ fs. fs) s from o.done o.sofar e (no_field r h).1 in
         (o.place ∙ ap text_long all, o.bytes ∙ ap (λ (fs : List Field). over b₀ 0 (text_of fs)) all)
 
-    module _ {f : Field} {next : ℕ} (d : r ≡ R.Field f next) where
+    module _ {f : Field} {next : ℕ} (d : r ≡ Ok (f, next)) where
       after : Sofar (λ fs. fs) s next (o.done ++ f ∷ [])
       after = sofar-next (λ fs. fs) s from o.done o.sofar e (λ fs g. fs ++ g ∷ []) (λ fs g. refl) d refl
 
@@ -143,13 +140,13 @@ module _ (s b : List ℕ) {t : Bool} (q : t ≡ leb (text_long (fields_of s)) (l
   pub text-fits : t ≡ true → text_long (fields_of s) ≤ length b
   text-fits h = leb-true _ _ (sym q ∙ h)
 
-  pub text-put : t ≡ true → {n : ℕ} {b' : List ℕ} → (n ≡ text_long (fields_of s)) × (b' ≡ over b 0 (text_of (fields_of s))) → Answers (in_room (length b) (made (text_of (fields_of s)))) b (Filled.Whole n) b'
+  pub text-put : t ≡ true → {n : ℕ} {b' : List ℕ} → (n ≡ text_long (fields_of s)) × (b' ≡ over b 0 (text_of (fields_of s))) → Answers (in_room (length b) (made (text_of (fields_of s)))) b (Ok n) b'
   unfolding in_room
-  text-put h u = answers b _ _ (in_room (length b) (made (text_of (fields_of s)))) (made (text_of (fields_of s))) (simp (sym q, h)) (ap Filled.Whole u.0) u.1
+  text-put h u = answers b _ (Ok _) (in_room (length b) (made (text_of (fields_of s)))) (made (text_of (fields_of s))) (simp (sym q, h)) (ap (gives tt) u.0) u.1
 
-  pub text-not : t ≡ false → Answers (in_room (length b) (made (text_of (fields_of s)))) b (Filled.Refused 16 0) b
+  pub text-not : t ≡ false → Answers (in_room (length b) (made (text_of (fields_of s)))) b (Err (record { fault = Room; at = 0 })) b
   unfolding in_room
-  text-not h = answers b b _ (in_room (length b) (made (text_of (fields_of s)))) (refused 16 0) (simp (sym q, h)) refl refl
+  text-not h = answers b b (Err (record { fault = Room; at = 0 })) (in_room (length b) (made (text_of (fields_of s)))) (refused 16 0) (simp (sym q, h)) refl refl
 
-pub sheet-readable : (s : List ℕ) {j : Judged} → judged_says j ≡ judge_sheet s → Bytes s → {day : Day} → j ≡ J.Accepted day → Readable s
+pub sheet-readable : (s : List ℕ) {j : Result Day Refusal} → judged_says j ≡ judge_sheet s → Bytes s → {day : Day} → j ≡ Ok day → Readable s
 sheet-readable s q bytes {day} d = readable s day bytes (sym q ∙ ap judged_says d)
