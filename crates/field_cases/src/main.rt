@@ -2,40 +2,34 @@
 // the body, the writer's with the bytes that it leaves. Then goes through sheets field by field, and prints the walker's place before each answer.
 #![tactic(auto)]
 
-use field::{Field, Form, Price, Read, Written};
+use field::{Field, Form, Price, Refusal};
 use field_reader::{field_body, read_field};
 use field_walker::turn_at;
 use field_writer::write_field;
-use std::io::{Print, Read as Input, Result};
+use std::io::{Print, Read, Result};
 use whole_input::{read_full, room};
 
-// The place behind a field, or the refusal.
-fn print_read<P: Print>(output: &P, read: Read) -> Result<()> {
-    match read {
-        Read::Field(_, next) => print!(output; "field {next}"),
-        Read::Refused(number, place) => print!(output; "refused {number} {place}"),
+// The place behind a field that was read or written, or the refusal.
+type Behind = std::result::Result<usize, Refusal>;
+
+fn print_behind<P: Print>(output: &P, behind: Behind) -> Result<()> {
+    match behind {
+        Ok(next) => print!(output; "field {next}"),
+        Err(refusal) => print!(output; "refused {} {}", u8::from(refusal.fault), refusal.at),
     }
 }
 
 // What the reader says, then the length of the body.
 fn show_read<P: Print>(output: &P, sheet: &[u8], at: usize) -> Result<()> {
-    print_read(output, read_field(sheet, at))?;
+    print_behind(output, read_field(sheet, at).map(|(_, next)| next))?;
     println!(output; " {}", field_body(sheet, at).len())
-}
-
-// The place behind the field, or the refusal.
-fn print_written<P: Print>(output: &P, written: Written) -> Result<()> {
-    match written {
-        Written::Next(next) => print!(output; "field {next}"),
-        Written::Refused(number, place) => print!(output; "refused {number} {place}"),
-    }
 }
 
 // What the writer says, and the eight bytes of the buffer behind it.
 fn show_write<P: Print>(output: &P, at: usize, field: Field) -> Result<()> {
     let mut buffer = [7u8; 8];
     let written = write_field(&mut buffer, at, field);
-    print_written(output, written)?;
+    print_behind(output, written)?;
     print!(output; ":")?;
     for &byte in &buffer {
         print!(output; " {byte}")?;
@@ -69,7 +63,7 @@ fn far<P: Print>(output: &P) -> Result<()> {
         form: Form::Short,
     };
     let written = write_field(&mut long, 1_048_577, header);
-    print_written(output, written)?;
+    print_behind(output, written)?;
     println!(output; "")?;
     show_read(output, &long, 1_048_577)
 }
@@ -117,8 +111,7 @@ fn writes<P: Print>(output: &P) -> Result<()> {
 fn show_turn<P: Print>(output: &P, sheet: &[u8], at: usize) -> Result<usize> {
     let turn = turn_at(sheet, at);
     print!(output; "{at}: ")?;
-    let read = turn.read;
-    print_read(output, read)?;
+    print_behind(output, turn.read.map(|(_, next)| next))?;
     println!(output; " {}", turn.length)?;
     Ok(turn.next)
 }
@@ -147,7 +140,7 @@ fn show_torn<P: Print>(
 }
 
 // The Nickel sheet of 130 bytes, which is the program's input: whole and torn.
-fn nickel_walks<P: Print, R: Input>(output: &P, input: &mut R) -> Result<()> {
+fn nickel_walks<P: Print, R: Read>(output: &P, input: &mut R) -> Result<()> {
     let mut buffer = [0u8; 4096];
     let length = read_full(input, &mut buffer)?;
     let sheet = &buffer[..length];

@@ -4,7 +4,7 @@
 
 ghost use Rattle.std.specs.Prelude.{◌<◌, ◌^◌};
 
-use filled_buffer::Filled;
+use field::Refusal;
 use list_lines::put_refusal;
 use std::io::{Print, Read, Result};
 use text::Text;
@@ -37,6 +37,9 @@ pub fn say<P: Print>(file: &P, text: Option<Text>) -> Result<()> {
     }
 }
 
+// What a call that fills a buffer answers: the length of what it put at the start, or a refusal.
+pub type Filled = std::result::Result<usize, Refusal>;
+
 // What stands at the start of a buffer on standard output; or what refused it on standard error.
 pub fn hand_out<O: Print, E: Print>(
     output: &O,
@@ -45,9 +48,13 @@ pub fn hand_out<O: Print, E: Print>(
     bytes: &[u8],
 ) -> Result<()> {
     match told {
-        Filled::Whole(n) => write_part(output, bytes, n),
-        Filled::Refused(number, place) => {
-            say(error, put_refusal(Text::empty(), number, place as u64))
+        Ok(n) => write_part(output, bytes, n),
+        Err(refusal) => {
+            let at = refusal.at as u64;
+            say(
+                error,
+                put_refusal(Text::empty(), refusal.fault.into(), at),
+            )
         }
     }
 }

@@ -5,9 +5,8 @@
 ghost use Rattle.std.specs.Prelude.{◌<◌, ◌≤◌, length};
 
 use list_lines::{put_lines, put_refusal};
-use price_rules::Closed;
 use program_output::say;
-use sheet::{Judged, judge_sheet};
+use sheet::judge_sheet;
 use six_answers::closings;
 use std::io::{Print, Result};
 use text::Text;
@@ -16,8 +15,8 @@ use whole_input::{read_full, room};
 // The six answers of a sheet, a line each, or its refusal.
 fn print_answers<P: Print>(output: &P, sheet: &[u8]) -> Result<()> {
     let answers = match closings(sheet) {
-        Closed::Six(_, six) => put_lines(Text::empty(), six),
-        Closed::Refused(number, at) => put_refusal(Text::empty(), number, at as u64),
+        Ok((_, six)) => put_lines(Text::empty(), six),
+        Err(refusal) => put_refusal(Text::empty(), refusal.fault.into(), refusal.at as u64),
     };
     say(output, answers)
 }
@@ -25,13 +24,8 @@ fn print_answers<P: Print>(output: &P, sheet: &[u8]) -> Result<()> {
 // What is said of a sheet, on a line of its own.
 fn print_judged<P: Print>(output: &P, sheet: &[u8]) -> Result<()> {
     match judge_sheet(sheet) {
-        Judged::Accepted(day) => {
-            let metal = day.metal;
-            let marks = day.marks;
-            let fields = day.fields;
-            println!(output; "accepted {metal} {marks} {fields}")
-        }
-        Judged::Refused(number, at) => println!(output; "refused {number} {at}"),
+        Ok(day) => println!(output; "accepted {} {} {}", day.metal, day.marks, day.fields),
+        Err(refusal) => println!(output; "refused {} {}", u8::from(refusal.fault), refusal.at),
     }
 }
 
