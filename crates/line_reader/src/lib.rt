@@ -1,7 +1,8 @@
 // One line of the tape, without its line feed, as a field of a day sheet; what a field's line is.
 #![tactic(auto)]
 
-ghost use Rattle.std.specs.Prelude.{◌≡◌, ◌+◌, ◌*◌};
+ghost use Rattle.std.specs.Prelude.{◌≡◌, ◌+◌, ◌*◌, ◌∷◌, [], MatchOption};
+ghost use Rattle.items.specs.Items.{items};
 ghost use Rattle.line_reader.specs.Lines.{side_bit, side_price, side_in, trade_in, quote_in, header_in, long_header_in, previous_in, three, four, five, field_in};
 
 use dollars::read_price;
@@ -141,33 +142,34 @@ fn of_five(a: &[u8], b: &[u8], c: &[u8], d: &[u8], e: &[u8]) -> Option<Field>
     None
 }
 
+// The first item of a line, and what stands behind its comma; nothing does behind the last item.
+fn first_item(s: &[u8]) -> (&[u8], Option<&[u8]>)
+    ensures { MatchOption result.1 (items s.now ≡ result.0.now ∷ []) (λ more. items s.now ≡ result.0.now ∷ items more.now) }
+{
+    let end = end_of(s, 0, b',');
+    if s.len() <= end {
+        return (s, None);
+    }
+    (&s[..end], Some(&s[end + 1..]))
+}
+
 // The field that a line says, its values not yet judged; or the line is malformed, or names what there is not.
 pub fn read_line(s: &[u8]) -> Option<Field>
     ensures { result ≡ field_in s.now }
 {
-    let a = end_of(s, 0, b',');
-    if s.len() <= a {
-        return None;
+    let (a, behind_a) = first_item(s);
+    let (b, behind_b) = first_item(behind_a?);
+    let (c, behind_c) = first_item(behind_b?);
+    let Some(behind_c) = behind_c else {
+        return of_three(a, b, c);
+    };
+    let (d, behind_d) = first_item(behind_c);
+    let Some(behind_d) = behind_d else {
+        return of_four(a, b, c, d);
+    };
+    let (e, behind_e) = first_item(behind_d);
+    match behind_e {
+        None => of_five(a, b, c, d, e),
+        Some(_) => None,
     }
-    let a1 = a + 1;
-    let b = end_of(s, a1, b',');
-    if s.len() <= b {
-        return None;
-    }
-    let b1 = b + 1;
-    let c = end_of(s, b1, b',');
-    if s.len() <= c {
-        return of_three(&s[..a], &s[a1..b], &s[b1..c]);
-    }
-    let c1 = c + 1;
-    let d = end_of(s, c1, b',');
-    if s.len() <= d {
-        return of_four(&s[..a], &s[a1..b], &s[b1..c], &s[c1..d]);
-    }
-    let d1 = d + 1;
-    let e = end_of(s, d1, b',');
-    if s.len() <= e {
-        return of_five(&s[..a], &s[a1..b], &s[b1..c], &s[c1..d], &s[d1..e]);
-    }
-    None
 }

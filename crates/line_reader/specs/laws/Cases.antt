@@ -1,5 +1,5 @@
 -- The places of the code that reads a line. Assumes nothing.
-use Rattle.std.specs.Prelude.{ℕ, ◌+◌, ◌-◌, ◌*◌, ◌≤◌, ◌<◌, Bool, true, false, ◌≡◌, refl, List, length, take, drop, Option, Some, None}
+use Rattle.std.specs.Prelude.{ℕ, ◌+◌, ◌-◌, ◌*◌, ◌≤◌, ◌<◌, Bool, true, false, ◌≡◌, refl, List, ◌∷◌, [], length, take, drop, Option, Some, None}
 use Rattle.std.proofs.Math.Path.{sym, ap}
 use Rattle.std.proofs.Common.{◌∙◌, Fits}
 use native.Mathlib.Omega.{arith}
@@ -15,7 +15,7 @@ use Rattle.field.specs.declared.Field.TheVariants as F
 use Rattle.dollars.specs.Dollars.{price}
 use Rattle.names.specs.Names.{same, metal_in, instrument_in}
 use Rattle.names.specs.laws.Finding.{instrument-found, metal-found}
-use Rattle.items.specs.Items.{end_of}
+use Rattle.items.specs.Items.{items, end_of}
 use Rattle.items.specs.laws.Items.{last-item, next-item}
 use Rattle.line_reader.specs.Lines.{side_bit, side_price, side_in, trade_in, quote_in, header_in, long_header_in, previous_in, three, four, five, field_of_items, field_in}
 
@@ -211,3 +211,38 @@ module _ (s : List ℕ) (a : ℕ) (qa : a ≡ end_of 44 s 0) where
           pub line-6 : e < length s → None ≡ field_in s
           unfolding field_in field_of_items
           line-6 h = sym (ap field_of_items (next-item 44 s 0 a qa ha _ (next-item 44 s (a + 1) b qb hb _ (next-item 44 s (b + 1) c qc hc _ (next-item 44 s (c + 1) d qd hd _ (next-item 44 s (d + 1) e qe h _ refl))))))
+
+-- ---- a line, item by item
+
+module _ (s : List ℕ) (is : List (List ℕ)) (e : items s ≡ is) where
+  pub items-are : field_of_items is ≡ field_in s
+  unfolding field_in
+  items-are = ap field_of_items (sym e)
+
+module _ (s a t b : List ℕ) (one : items s ≡ a ∷ items t) where
+  pub two_items : items t ≡ b ∷ [] → None ≡ field_in s
+  unfolding field_of_items
+  two_items two = items-are s (a ∷ b ∷ []) (one ∙ ap (λ v. a ∷ v) two)
+
+  module _ (u c : List ℕ) (two : items t ≡ b ∷ items u) where
+    pub three_items : items u ≡ c ∷ [] → field_in s ≡ three a b c
+    unfolding field_of_items
+    three_items three = sym (items-are s (a ∷ b ∷ c ∷ []) (one ∙ ap (λ v. a ∷ v) (two ∙ ap (λ v. b ∷ v) three)))
+
+    module _ (v d : List ℕ) (third : items u ≡ c ∷ items v) where
+      pub four_items : items v ≡ d ∷ [] → field_in s ≡ four a b c d
+      unfolding field_of_items
+      four_items fourth = sym (items-are s (a ∷ b ∷ c ∷ d ∷ []) (one ∙ ap (λ v. a ∷ v) (two ∙ ap (λ v. b ∷ v) (third ∙ ap (λ v. c ∷ v) fourth))))
+
+      module _ (w e : List ℕ) (fourth : items v ≡ d ∷ items w) where
+        pub five_items : items w ≡ e ∷ [] → field_in s ≡ five a b c d e
+        unfolding field_of_items
+        five_items fifth = sym (items-are s (a ∷ b ∷ c ∷ d ∷ e ∷ []) (one ∙ ap (λ v. a ∷ v) (two ∙ ap (λ v. b ∷ v) (third ∙ ap (λ v. c ∷ v) (fourth ∙ ap (λ v. d ∷ v) fifth)))))
+
+        pub more_items : (x : List ℕ) → items w ≡ e ∷ items x → field_in s ≡ None
+        unfolding field_of_items
+        more_items x fifth = sym (items-are s (a ∷ b ∷ c ∷ d ∷ e ∷ items x) (one ∙ ap (λ v. a ∷ v) (two ∙ ap (λ v. b ∷ v) (third ∙ ap (λ v. c ∷ v) (fourth ∙ ap (λ v. d ∷ v) fifth)))))
+
+pub one_item : (s a : List ℕ) → items s ≡ a ∷ [] → None ≡ field_in s
+unfolding field_of_items
+one_item s a e = items-are s (a ∷ []) e
