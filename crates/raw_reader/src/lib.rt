@@ -29,7 +29,8 @@ fn header_by(form: Form, body: &[u8]) -> Field
     }
 }
 
-// The values of a previous close's body: a pass that knows the tag asks for no other.
+// The values of a previous close's body: a pass that knows the tag asks for no other. It, the next two and the end's are four functions, since each kind
+// has values of its own.
 pub fn previous_of(body: &[u8]) -> Field
     requires { length body.now ≡ 5 }
     ensures { result ≡ previous_of body.now }

@@ -1,4 +1,5 @@
-// Big-endian numbers of a day sheet: joined from bytes, and put at the start of a lent part. Hosts don't call it.
+// Big-endian numbers of a day sheet: joined from bytes, and put at the start of a lent part. The library's methods do the work; the names say what a
+// sheet's numbers are, in the words of the definitions. Hosts don't call it.
 #![tactic(auto)]
 
 ghost use Rattle.std.specs.Prelude.{◌≡◌, [], ◌∷◌};
