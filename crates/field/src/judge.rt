@@ -231,7 +231,14 @@ pub fn judge(before: Before, field: Field) -> Result<(), Fault>
             sides,
             bid,
             offer,
-        } => judge_quote(before, time, instrument, sides, bid, offer),
+        } => {
+            // Most quotes have both sides: told so, the compiler leaves the tests of absent sides out.
+            if sides == 3 {
+                judge_quote(before, time, instrument, 3, bid, offer)
+            } else {
+                judge_quote(before, time, instrument, sides, bid, offer)
+            }
+        }
         Field::End { .. } => Ok(()),
     }
 }
