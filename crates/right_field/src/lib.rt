@@ -14,7 +14,8 @@ use field::{Form, layout};
 use raw_reader::price_at;
 use wire::join2;
 
-// The values of a body earn no number, by its tag.
+// The values of a body earn no number, by its tag. They are judged as numbers: where `field_of` makes a field of them first, a sheet takes 1.2 times as
+// long to judge.
 fn header_values(body: &[u8], form: Form) -> bool
     requires { 3 ≤ length body.now }
     ensures { result ≡ values_right (header_by form body.now) }
