@@ -10,39 +10,29 @@ ghost use Rattle.cents.specs.laws.Close.{nearest};
 // The highest close, in cents.
 const HIGHEST: u64 = 99_999_999;
 
-// A rounded price in cents, where it is a close.
-#[derive(Clone, Copy)]
-pub enum Rounded {
-    Close(u32),
-    OutOfRange,
-}
-
-// n / d to step u. A sum below zero rounds to no close, so the rest goes by unsigned numbers.
-pub fn rounded_close(n: i64, d: u64, u: u32) -> Rounded
+// n / d to step u, where that is a close. A sum below zero rounds to none, so the rest goes by unsigned numbers.
+pub fn rounded_close(n: i64, d: u64, u: u32) -> Option<u32>
     ensures { means result ≡ close_of (round n d u) }
 {
     if n < 0 {
-        return Rounded::OutOfRange;
+        return None;
     }
     rounded_sum(n as u64, d, u)
 }
 
 // The same of a sum that is not negative. d * u could wrap, so n is divided by d first: what that cuts off moves no step.
 // Nearly every step is 1 cent: with the constant there is no second division.
-fn rounded_sum(n: u64, d: u64, u: u32) -> Rounded
+fn rounded_sum(n: u64, d: u64, u: u32) -> Option<u32>
     requires { n < 2 ^ 63 }
     ensures { means result ≡ close_of (round (pos n) d u) }
 {
-    if d == 0 {
-        return Rounded::OutOfRange;
-    }
-    if u == 0 {
-        return Rounded::OutOfRange;
+    if d == 0 || u == 0 {
+        return None;
     }
     let s = u as u64;
     let twice = 2 * n / d;
     if 2 * HIGHEST + s <= twice {
-        return Rounded::OutOfRange;
+        return None;
     }
     if s == 1 {
         return close_of(steps(twice, 1));
@@ -61,14 +51,11 @@ fn steps(twice: u64, s: u64) -> u64
 }
 
 // m cents as a close.
-fn close_of(m: u64) -> Rounded
+fn close_of(m: u64) -> Option<u32>
     ensures { means result ≡ close_of (pos m) }
 {
-    if m == 0 {
-        return Rounded::OutOfRange;
+    if m == 0 || HIGHEST < m {
+        return None;
     }
-    if HIGHEST < m {
-        return Rounded::OutOfRange;
-    }
-    Rounded::Close(m as u32)
+    Some(m as u32)
 }

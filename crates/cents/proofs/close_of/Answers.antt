@@ -3,12 +3,14 @@
 use native.Mathlib.Omega.{arith}
 use Rattle.cents.specs.laws.Close.{close-in, close-above, close-zero}
 use Rattle.cents.proofs.close_of.Goals as goal
+use Rattle.cents.proofs.close_of.Goals.{then-m-eq0-via-then-m-eq0, then-m-eq0-via-else-m-eq0+then-m-gt-HIGHEST}
 
 pub returns-then-m-eq0 : goal.returns-then-m-eq0
-returns-then-m-eq0 c = search close-zero
-
-pub returns-then-m-gt-HIGHEST : goal.returns-then-m-gt-HIGHEST
-returns-then-m-gt-HIGHEST c = close-above _ (omega arith)
+returns-then-m-eq0 c =
+    elim c.then-m-eq0.branch [
+      | then-m-eq0-via-then-m-eq0 w ↦ close-zero _ w.if-m-eq0.true
+      | then-m-eq0-via-else-m-eq0+then-m-gt-HIGHEST w ↦ close-above _ (omega arith)
+    ]
 
 pub returns : goal.returns
 returns c = close-in _ c.if-m-eq0.false (omega arith)

@@ -2,26 +2,24 @@
 --     answer-means          no two answers say the same
 --     close-in, round-..    a law for each return of the code, from what it knows there
 -- Assumes nothing.
-use Rattle.std.specs.Prelude.{◌≡◌, refl, true, false, ℕ, zero, suc, ◌+◌, ◌*◌, ◌/◌, ◌%◌, ◌≤◌, ◌<◌, ℤ, pos, negsuc, neg_ℤ, nat_abs, ◌*ℤ◌}
+use Rattle.std.specs.Prelude.{◌≡◌, refl, true, false, ℕ, zero, suc, ◌+◌, ◌*◌, ◌/◌, ◌%◌, ◌≤◌, ◌<◌, ℤ, pos, negsuc, neg_ℤ, nat_abs, ◌*ℤ◌, Option, Some, None}
 use Rattle.std.proofs.Common.{sym, ap, ◌∙◌, mul_comm, mul_assoc, mul_left_comm, mul-one, mul-zero, div-mul-le_self, div-add-mod', mod-lt, le-div_iff_mul-le, div-lt_iff_lt-mul, suc-mul, add-mul, arith, le-leb, ltb-true, SFits, to_z, of_z, to_z-of_z}
 use Rattle.std.proofs.Math.Nat.{div-zero, div-eq_of_lt, div-div-eq-div-mul, add-mul-div_left, lt-div-mul-add}
 use Rattle.std.proofs.lemmas.Bool.{lt-leb}
 use Rattle.std.specs.Int.Signed.{lt_z}
 use Rattle.std.specs.Int.{w64}
-use Rattle.cents.specs.declared.Rounded.{Rounded}
-use Rattle.cents.specs.declared.Rounded.TheVariants.{Close, OutOfRange}
 use Rattle.cents.specs.laws.Whole.{Diff, is, is-*, is-+, is_pos, natural}
 use Rattle.cents.specs.Round.{floor, limit, round}
 use Rattle.cents.specs.Close.{Said, means, close_of, close, refused}
 
 -- the answer that says it, so that no two answers say the same
-abbrev pub answer : Said → Rounded
-answer (close m) = Close m
-answer (refused number) = OutOfRange
+abbrev pub answer : Said → Option ℕ
+answer (close m) = Some m
+answer (refused number) = None
 
-pub answer-means : (r : Rounded) → answer (means r) ≡ r
-answer-means (Close m) = refl
-answer-means OutOfRange = refl
+pub answer-means : (r : Option ℕ) → answer (means r) ≡ r
+answer-means (Some m) = refl
+answer-means None = refl
 
 -- ---- which case it is
 
