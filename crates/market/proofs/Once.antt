@@ -13,14 +13,8 @@ use Rattle.market.proofs.in_window.Reads as in_window
 use Rattle.market.proofs.in_window.Kinds as in-windowK
 use Rattle.market.proofs.is_marked.Reads as is-marked
 use Rattle.market.proofs.is_marked.Kinds as is-markedK
-use Rattle.market.proofs.contract_rows.Reads as contract-rows
-use Rattle.market.proofs.contract_rows.Kinds as contract-rowsK
-use Rattle.market.proofs.instrument_rows.Reads as instrument-rows
-use Rattle.market.proofs.instrument_rows.Kinds as instrument-rowsK
-use Rattle.market.proofs.contract_by.Reads as contract-by
-use Rattle.market.proofs.contract_by.Kinds as contract-byK
-use Rattle.market.proofs.leg_by.Reads as leg-by
-use Rattle.market.proofs.leg_by.Kinds as leg-byK
+use Rattle.market.proofs.contract_of.Reads as contract-of
+use Rattle.market.proofs.contract_of.Kinds as contract-ofK
 use Rattle.market.proofs.step_by.Reads as step_by
 use Rattle.market.proofs.step_by.Kinds as step-byK
 use Rattle.market.proofs.is_named.Reads as is-named
@@ -46,17 +40,8 @@ in-window-once κs a x y s t p q = once p q
 pub is-marked-once : Once 0 is-markedK.ps is-markedK.r is-marked.Post (λ κs x s. x)
 is-marked-once κs a x y s t p q = once p q
 
-pub contract-rows-once : Once 0 contract-rowsK.ps contract-rowsK.r contract-rows.Post (λ κs x s. x)
-contract-rows-once κs a x y s t p q = once p q
-
-pub instrument-rows-once : Once 0 instrument-rowsK.ps instrument-rowsK.r instrument-rows.Post (λ κs x s. x)
-instrument-rows-once κs a x y s t p q = once p q
-
-pub contract-by-once : Once 0 contract-byK.ps contract-byK.r contract-by.Post (λ κs x s. x)
-contract-by-once κs a x y s t p q = once p q
-
-pub leg-by-once : Once 0 leg-byK.ps leg-byK.r leg-by.Post (λ κs x s. x)
-leg-by-once κs a x y s t p q = once p q
+pub contract-of-once : Once 0 contract-ofK.ps contract-ofK.r contract-of.Post (λ κs x s. x)
+contract-of-once κs a x y s t p q = once p q
 
 pub step-by-once : Once 0 step-byK.ps step-byK.r step_by.Post (λ κs x s. x)
 step-by-once κs a x y s t p q = once p q

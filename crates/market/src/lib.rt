@@ -2,7 +2,7 @@
 #![tactic(auto)]
 
 ghost use Rattle.std.specs.Prelude.{◌≡◌, cond, eqb};
-ghost use Rattle.market.specs.Market.{metal_of, contracts, contract_by, instruments, row_leg, leg_of, start_of, in_window, marked, named, barred};
+ghost use Rattle.market.specs.Market.{metal_of, contract_of, leg_by, leg_of, start_of, in_window, marked, named, barred};
 ghost use Rattle.market.specs.laws.Rows.{start_in, bit_of, has_bit};
 
 // A metal's spread start and anchor start, in milliseconds of the day, and its 3M step, in cents.
@@ -36,59 +36,106 @@ pub const WINDOW: u32 = 300_000;
 // The least lots, over all of a contract's VWAP instruments together, at which its trades price it.
 pub const MINIMUM_LOTS: u64 = 5;
 
-// Nickel, Aluminium, Zinc, Copper, Lead: spread start, anchor start, 3M step.
-const METALS: [[u32; 3]; 5] = [
-    [58_200_000, 58_500_000, 100],
-    [58_800_000, 59_100_000, 50],
-    [59_400_000, 59_700_000, 50],
-    [60_000_000, 60_300_000, 50],
-    [60_600_000, 60_900_000, 50],
-];
-
-// 3M, M3, M2, M4, M1, Cash: the first VWAP instrument, the one past the last, the TWAP instrument, the step.
-const CONTRACTS: [[u8; 4]; 6] = [
-    [0, 1, 0, 0],
-    [1, 2, 1, 1],
-    [2, 4, 3, 1],
-    [4, 7, 5, 1],
-    [7, 11, 7, 1],
-    [11, 12, 11, 1],
+// By metal, counted from 1: Nickel, Aluminium, Zinc, Copper, Lead.
+static METALS: [Metal; 5] = [
+    Metal {
+        spread: 58_200_000,
+        anchor: 58_500_000,
+        step: 100,
+    },
+    Metal {
+        spread: 58_800_000,
+        anchor: 59_100_000,
+        step: 50,
+    },
+    Metal {
+        spread: 59_400_000,
+        anchor: 59_700_000,
+        step: 50,
+    },
+    Metal {
+        spread: 60_000_000,
+        anchor: 60_300_000,
+        step: 50,
+    },
+    Metal {
+        spread: 60_600_000,
+        anchor: 60_900_000,
+        step: 50,
+    },
 ];
 
 // The contracts by their place in pricing order.
-const THREE_M: u8 = 0;
+const THREE_M: usize = 0;
 
-const M3: u8 = 1;
+const M3: usize = 1;
 
-const M2: u8 = 2;
+const M2: usize = 2;
 
-const M4: u8 = 3;
+const M4: usize = 3;
 
-const M1: u8 = 4;
+const M1: usize = 4;
 
-const CASH: u8 = 5;
+const CASH: usize = 5;
 
-// The instruments, 0 to 11: A and B of each A-B; the outright has 3M for both.
-const INSTRUMENTS: [[u8; 2]; 12] = [
-    [THREE_M, THREE_M],
-    [M3, THREE_M],
-    [M2, THREE_M],
-    [M2, M3],
-    [M2, M4],
-    [M3, M4],
-    [THREE_M, M4],
-    [M1, M2],
-    [M1, M3],
-    [M1, THREE_M],
-    [M1, M4],
-    [CASH, M1],
+// 3M, M3, M2, M4, M1, Cash.
+static CONTRACTS: [Contract; 6] = [
+    Contract {
+        first: 0,
+        past: 1,
+        twap: 0,
+        step: 0,
+    },
+    Contract {
+        first: 1,
+        past: 2,
+        twap: 1,
+        step: 1,
+    },
+    Contract {
+        first: 2,
+        past: 4,
+        twap: 3,
+        step: 1,
+    },
+    Contract {
+        first: 4,
+        past: 7,
+        twap: 5,
+        step: 1,
+    },
+    Contract {
+        first: 7,
+        past: 11,
+        twap: 7,
+        step: 1,
+    },
+    Contract {
+        first: 11,
+        past: 12,
+        twap: 11,
+        step: 1,
+    },
 ];
 
-// By the header's third value, 1 and 2: the contract that 3M is, and the instruments on which no field may be then, bit i for instrument i. With any
-// other there are none.
-const NAMED: [usize; 2] = [M3 as usize, M4 as usize];
+// The instruments, 0 to 11: A and B of each A-B; the outright has 3M for both.
+static INSTRUMENTS: [(usize, usize); 12] = [
+    (THREE_M, THREE_M),
+    (M3, THREE_M),
+    (M2, THREE_M),
+    (M2, M3),
+    (M2, M4),
+    (M3, M4),
+    (THREE_M, M4),
+    (M1, M2),
+    (M1, M3),
+    (M1, THREE_M),
+    (M1, M4),
+    (CASH, M1),
+];
 
-const BARRED: [u16; 2] = [
+// By the header's third value, 1 and 2: the instruments on which no field may be then, bit i for instrument i. With any other there are none.
+static BARRED: [u16; 2] = [
     1 << 1 | 1 << 2 | 1 << 6 | 1 << 9,
     1 << 4 | 1 << 5 | 1 << 6 | 1 << 10,
 ];
@@ -97,72 +144,55 @@ const BARRED: [u16; 2] = [
 pub fn metal_of(metal: u8) -> Metal
     ensures { result ≡ metal_of metal }
 {
-    if 0 < metal {
-        if metal <= 5 {
-            let row = METALS[metal as usize - 1];
-            return Metal {
-                spread: row[0],
-                anchor: row[1],
-                step: row[2],
-            };
-        }
-    }
-    Metal {
-        spread: 0,
-        anchor: 0,
-        step: 0,
+    match metal {
+        1..=5 => METALS[metal as usize - 1],
+        _ => Metal {
+            spread: 0,
+            anchor: 0,
+            step: 0,
+        },
     }
 }
 
-// The tables by contract and by instrument, for a caller that looks up more than one row: a constant is laid anew at each use.
-pub fn contract_rows() -> [[u8; 4]; 6]
-    ensures { result ≡ contracts }
+// The row of a contract, 0 to 5 in pricing order; of any other a row of zeros.
+pub fn contract_of(contract: usize) -> Contract
+    ensures { result ≡ contract_of contract }
 {
-    CONTRACTS
-}
-
-pub fn instrument_rows() -> [[u8; 2]; 12]
-    ensures { result ≡ instruments }
-{
-    INSTRUMENTS
-}
-
-// The cells of a contract's row by name.
-pub fn contract_by(row: [u8; 4]) -> Contract
-    ensures { result ≡ contract_by row }
-{
-    Contract {
-        first: row[0],
-        past: row[1],
-        twap: row[2],
-        step: row[3],
+    match contract {
+        0..=5 => CONTRACTS[contract],
+        _ => Contract {
+            first: 0,
+            past: 0,
+            twap: 0,
+            step: 0,
+        },
     }
 }
 
-// The leg that an instrument's row says: of A and B the contract that is priced first is the other leg.
-pub fn leg_by(row: [u8; 2]) -> Leg
-    ensures { result ≡ row_leg row }
+// Of A and B the contract that is priced first is the other leg.
+fn leg_by(a: usize, b: usize) -> Leg
+    ensures { result ≡ leg_by a b }
 {
-    let a = row[0];
-    let b = row[1];
     if b < a {
-        return Leg::Over(b as usize);
+        Leg::Over(b)
+    } else if a < b {
+        Leg::Under(a)
+    } else {
+        Leg::Outright
     }
-    if a < b {
-        return Leg::Under(a as usize);
-    }
-    Leg::Outright
 }
 
 // The leg of an instrument, 0 to 11; any other instrument is as the outright.
 pub fn leg_of(instrument: u8) -> Leg
     ensures { result ≡ leg_of instrument }
 {
-    let i = instrument as usize;
-    if i < 12 {
-        return leg_by(INSTRUMENTS[i]);
+    match instrument {
+        0..=11 => {
+            let (a, b) = INSTRUMENTS[instrument as usize];
+            leg_by(a, b)
+        }
+        _ => Leg::Outright,
     }
-    Leg::Outright
 }
 
 // The start of an instrument's window by its metal's row, for who has looked that up: the anchor window for instrument 0, the spread window for all
@@ -189,44 +219,38 @@ pub fn step_by(metal: u8, step: u8) -> u32
     ensures { result ≡ cond (eqb step 0) (metal_of metal).step step }
 {
     if step == 0 {
-        let by_metal = metal_of(metal);
-        return by_metal.step;
+        metal_of(metal).step
+    } else {
+        step as u32
     }
-    step as u32
 }
 
 // Whether a time lies in the window of a start: the start is in, start + 300,000 is out.
 pub fn in_window(start: u32, time: u32) -> bool
     ensures { result ≡ in_window start time }
 {
-    if time < start {
-        return false;
-    }
-    time - start < WINDOW
+    start <= time && time - start < WINDOW
 }
 
 // Whether a spread's mark is set: bit i - 1 for spread i; instrument 0 has none, and neither has one above 16.
 pub fn is_marked(marks: u16, instrument: u8) -> bool
     ensures { result ≡ marked marks instrument }
 {
-    if 0 < instrument {
-        if instrument <= 16 {
-            return (marks >> (instrument - 1)) % 2 == 1;
-        }
+    match instrument {
+        1..=16 => (marks >> (instrument - 1)) % 2 == 1,
+        _ => false,
     }
-    false
 }
 
 // Whether 3M is this contract, by the header's third value.
 pub fn is_named(third: u8, contract: usize) -> bool
     ensures { result ≡ named third contract }
 {
-    if 0 < third {
-        if third <= 2 {
-            return contract == NAMED[third as usize - 1];
-        }
+    match third {
+        1 => contract == M3,
+        2 => contract == M4,
+        _ => false,
     }
-    false
 }
 
 // The bit of an instrument in a row of them. What is no instrument has bit 12, which no row has, so that no branch asks for it.
@@ -246,10 +270,8 @@ fn has_bit(row: u16, instrument: u8) -> bool
 pub fn is_barred(third: u8, instrument: u8) -> bool
     ensures { result ≡ barred third instrument }
 {
-    if 0 < third {
-        if third <= 2 {
-            return has_bit(BARRED[third as usize - 1], instrument);
-        }
+    match third {
+        1..=2 => has_bit(BARRED[third as usize - 1], instrument),
+        _ => false,
     }
-    false
 }

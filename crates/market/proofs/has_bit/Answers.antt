@@ -4,6 +4,3 @@ use Rattle.market.proofs.has_bit.Goals as goal
 
 pub overflow_shr-result : goal.overflow_shr-result
 overflow_shr-result c = rw c.bit_of.ensures (bit-small _)
-
-pub returns : goal.returns
-returns c = rw c.bit_of.ensures

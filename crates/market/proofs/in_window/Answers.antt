@@ -1,11 +1,11 @@
 -- `market::in_window` meets its contract. Assumes nothing.
-use mathlib.Core.Path.{sym}
-use native.Mathlib.Omega.{arith}
+use mathlib.Core.Path.{sym, ◌∙◌}
+use borrow.Author.Tests.{lt-leb}
 use Rattle.market.specs.laws.Rows.{window-before, window-from}
 use Rattle.market.proofs.in_window.Goals as goal
 
-pub returns-then-time-start : goal.returns-then-time-start
-returns-then-time-start c = sym (window-before _ _ (omega arith))
+pub returns-then-start-time : goal.returns-then-start-time
+returns-then-start-time c = sym (window-from _ _ c.if-start-time.true)
 
-pub returns : goal.returns
-returns c = sym (window-from _ _ (omega arith))
+pub returns-else-start-time : goal.returns-else-start-time
+returns-else-start-time c = lt-leb _ _ c.if-start-time.false ∙ sym (window-before _ _ c.if-start-time.false)

@@ -4,11 +4,11 @@ use native.Mathlib.Omega.{arith}
 use Rattle.market.specs.laws.Rows.{barred-row, barred-none, barred-above}
 use Rattle.market.proofs.is_barred.Goals as goal
 
-pub returns-then-third-le2 : goal.returns-then-third-le2
-returns-then-third-le2 c = c.has_bit.ensures ∙ barred-row _ _ (omega arith) (omega arith)
+pub returns-in-1-to-2 : goal.returns-in-1-to-2
+returns-in-1-to-2 c = c.has_bit.ensures ∙ barred-row _ _ (omega arith) (omega arith)
 
-pub returns-else-third-le2 : goal.returns-else-third-le2
-returns-else-third-le2 c = barred-above _ _ (omega arith)
+pub returns-in_default : goal.returns-in_default
+returns-in_default c = barred-none _ _ (omega arith)
 
-pub returns-else-third-gt0 : goal.returns-else-third-gt0
-returns-else-third-gt0 c = barred-none _ _ (omega arith)
+pub returns-in_default-2 : goal.returns-in_default-2
+returns-in_default-2 c = barred-above _ _ (omega arith)

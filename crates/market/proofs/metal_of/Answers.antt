@@ -1,16 +1,19 @@
 -- `market::metal_of` meets its contract: the table has the row, or it has none. Assumes nothing.
-use mathlib.Core.Path.{◌≡◌}
+use Prim.Native.Nat.{◌-◌}
+use mathlib.Core.Path.{◌≡◌, ◌∙◌}
+use mathlib.Core.List.{[]}
 use native.Mathlib.Omega.{arith}
-use Rattle.market.specs.Market.{metal_of}
+use lib.ListN.{get_or-map}
+use Rattle.market.specs.Market.{metals, metal_by, metal_of}
 use Rattle.market.specs.laws.Rows.{metal-row, metal-none}
 use Rattle.market.proofs.metal_of.Goals as goal
 
-pub returns-then-metal-le5 : goal.returns-then-metal-le5
-returns-then-metal-le5 c = metal-row _ (omega arith)
+pub returns-in-1-to-5 : goal.returns-in-1-to-5
+returns-in-1-to-5 c = get_or-map metal_by metals (c.args.metal - 1) [] ∙ metal-row _ (omega arith)
 
-pub returns-else-metal-le5 : goal.returns-else-metal-le5
-returns-else-metal-le5 c = metal-none _ (omega arith)
-
-pub returns-else-metal-gt0 : goal.returns-else-metal-gt0
+pub returns-in_default : goal.returns-in_default
 unfolding metal_of
-returns-else-metal-gt0 c = let none : c.args.metal ≡ 0 = omega arith in simp none
+returns-in_default c = let none : c.args.metal ≡ 0 = omega arith in simp none
+
+pub returns-in_default-2 : goal.returns-in_default-2
+returns-in_default-2 c = metal-none _ (omega arith)
