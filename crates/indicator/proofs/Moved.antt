@@ -4,7 +4,7 @@
 --     shifted_at, shifted     of fields moved by δ: the indicator at a millisecond, the sum
 --     turned-at, turned       the same of fields turned round
 -- Assumes nothing.
-use Rattle.std.specs.Prelude.{ℕ, ◌/◌, ◌%◌, ◌≤◌, ◌≡◌, refl, Bool, true, false, cond, T, leb, eqb, ℤ, pos, neg_ℤ, ◌+ℤ◌, ◌*ℤ◌, ◌≤ℤ◌}
+use Rattle.std.specs.Prelude.{ℕ, ◌/◌, ◌%◌, ◌≤◌, ◌≡◌, refl, Bool, true, false, cond, T, leb, eqb, ℤ, pos, neg_ℤ, ◌+ℤ◌, ◌*ℤ◌, ◌≤ℤ◌, Option, Some, None}
 use Rattle.std.proofs.Common.{ap, ◌∙◌, arith}
 use mathlib.Core.List.{List, [], ◌∷◌, map}
 use Rattle.std.specs.Int.Signed.{lt_z, le_z, lt_z_yes, le_z_yes}
@@ -14,8 +14,6 @@ use Rattle.field.specs.declared.Field.{Field}
 use Rattle.field.specs.declared.Field.TheVariants.{Header, PreviousClose, Trade, Quote, End}
 use Rattle.field.specs.Judging.{both, pick, has_bid, has_offer, ordered}
 use Rattle.market.specs.Market.{window_length}
-use Rattle.indicator.specs.declared.Side.{Side}
-use Rattle.indicator.specs.declared.Side.TheVariants.{Absent, At}
 use Rattle.indicator.specs.declared.Indicator.{Indicator}
 use Rattle.indicator.specs.Indicator.{side_of, present, cents_of, empty, after_trade, after_close, after_quote, below, below_offer, inside_book, value_by, value_of, taken, after_from, after, cents_at, twap_sum, has_reference}
 use Rattle.indicator.specs.laws.Sums.{sum-cong, sum-shift, sum-neg}
@@ -55,7 +53,7 @@ lt_z-neg a b =
 -- ---- every price moved
 
 module _ (δ : ℤ) where
-  abbrev shiftSide : Side → Side
+  abbrev shiftSide : Option Price → Option Price
   shiftSide r = on_side (shift_price δ) r
 
   abbrev shiftState : Indicator → Indicator
@@ -68,17 +66,17 @@ module _ (δ : ℤ) where
   shift-choice : (a b x y : Price) → cond (below (shift_price δ a) (shift_price δ b)) (shift_price δ x) (shift_price δ y) ≡ shift_price δ (cond (below a b) x y)
   shift-choice a b x y = ap (λ (t : Bool). cond t (shift_price δ x) (shift_price δ y)) (lt_z-shift a.cents b.cents δ) ∙ cond_map (shift_price δ) (below a b) x y
 
-  shift-offer : (p : Price) (o : Side) → below_offer (shift_price δ p) (shiftSide o) ≡ shift_price δ (below_offer p o)
-  shift-offer p Absent = refl
-  shift-offer p (At o) = shift-choice o p o p
+  shift-offer : (p : Price) (o : Option Price) → below_offer (shift_price δ p) (shiftSide o) ≡ shift_price δ (below_offer p o)
+  shift-offer p None = refl
+  shift-offer p (Some o) = shift-choice o p o p
 
-  shift-book : (p : Price) (b o : Side) → inside_book (shift_price δ p) (shiftSide b) (shiftSide o) ≡ shift_price δ (inside_book p b o)
-  shift-book p Absent o = shift-offer p o
-  shift-book p (At b) o = ap (λ (x : Price). cond (below (shift_price δ p) (shift_price δ b)) (shift_price δ b) x) (shift-offer p o) ∙ shift-choice p b b (below_offer p o)
+  shift-book : (p : Price) (b o : Option Price) → inside_book (shift_price δ p) (shiftSide b) (shiftSide o) ≡ shift_price δ (inside_book p b o)
+  shift-book p None o = shift-offer p o
+  shift-book p (Some b) o = ap (λ (x : Price). cond (below (shift_price δ p) (shift_price δ b)) (shift_price δ b) x) (shift-offer p o) ∙ shift-choice p b b (below_offer p o)
 
-  shift-value : (r b o : Side) → T (present r) → cents_of (value_by (shiftSide r) (shiftSide b) (shiftSide o)) ≡ cents_of (value_by r b o) +ℤ δ
-  shift-value Absent b o h = absurd h
-  shift-value (At p) b o h = ap (λ (q : Price). q.cents) (shift-book p b o)
+  shift-value : (r b o : Option Price) → T (present r) → cents_of (value_by (shiftSide r) (shiftSide b) (shiftSide o)) ≡ cents_of (value_by r b o) +ℤ δ
+  shift-value None b o h = absurd h
+  shift-value (Some p) b o h = ap (λ (q : Price). q.cents) (shift-book p b o)
 
 pub shifted-state : (i : ℕ) (δ : ℤ) (fs : List Field) (t : ℕ) → after i t (map (changed i (shift_field δ)) fs) ≡ shiftState δ (after i t fs)
 shifted-state i δ fs t =
@@ -100,7 +98,7 @@ module _ (i start : ℕ) (δ : ℤ) (fs : List Field) where
 
 -- ---- every price negated, and the sides exchanged
 
-abbrev turn_side : Side → Side
+abbrev turn_side : Option Price → Option Price
 turn_side r = on_side turn_price r
 
 abbrev turn_state : Indicator → Indicator
@@ -130,10 +128,10 @@ either_first false true a b c h = refl
 either_first false false a b c h = refl
 
 -- a bid is not above an offer, where both are there
-abbrev pub Uncrossed : Side → Side → Type 0
-Uncrossed Absent o = Unit {0}
-Uncrossed (At b) Absent = Unit {0}
-Uncrossed (At b) (At o) = b.cents ≤ℤ o.cents
+abbrev pub Uncrossed : Option Price → Option Price → Type 0
+Uncrossed None o = Unit {0}
+Uncrossed (Some b) None = Unit {0}
+Uncrossed (Some b) (Some o) = b.cents ≤ℤ o.cents
 
 -- then no price is both below the bid and above the offer
 apart : (p b o : Price) → b.cents ≤ℤ o.cents → T (below o p) → T (below p b) → ⊥
@@ -142,17 +140,17 @@ apart p b o h x y =
     let v = read-< (is p.cents) (is b.cents) (lt_z_yes y) in
     omega (arith, read-≤ (is b.cents) (is o.cents) h)
 
-turn-book : (p : Price) (b o : Side) → Uncrossed b o → inside_book (turn_price p) (turn_side o) (turn_side b) ≡ turn_price (inside_book p b o)
-turn-book p Absent Absent h = refl
-turn-book p Absent (At o) h = turn-choice p o o p
-turn-book p (At b) Absent h = turn-choice b p b p
-turn-book p (At b) (At o) h =
+turn-book : (p : Price) (b o : Option Price) → Uncrossed b o → inside_book (turn_price p) (turn_side o) (turn_side b) ≡ turn_price (inside_book p b o)
+turn-book p None None h = refl
+turn-book p None (Some o) h = turn-choice p o o p
+turn-book p (Some b) None h = turn-choice b p b p
+turn-book p (Some b) (Some o) h =
     ap (λ (x : Price). cond (below (turn_price p) (turn_price o)) (turn_price o) x) (turn-choice b p b p) ∙ turn-choice p o o (cond (below p b) b p)
     ∙ ap turn_price (either_first (below o p) (below p b) o b p (apart p b o h))
 
-turn-value : (r b o : Side) → Uncrossed b o → cents_of (value_by (turn_side r) (turn_side o) (turn_side b)) ≡ neg_ℤ (cents_of (value_by r b o))
-turn-value Absent b o h = refl
-turn-value (At p) b o h = ap (λ (q : Price). q.cents) (turn-book p b o h)
+turn-value : (r b o : Option Price) → Uncrossed b o → cents_of (value_by (turn_side r) (turn_side o) (turn_side b)) ≡ neg_ℤ (cents_of (value_by r b o))
+turn-value None b o h = refl
+turn-value (Some p) b o h = ap (λ (q : Price). q.cents) (turn-book p b o h)
 
 -- fair quotes leave a fair book
 fair-sides : (sides : ℕ) (bid offer : Price) → ordered sides bid offer ≡ true → Uncrossed (side_of (has_bid sides) bid) (side_of (has_offer sides) offer)

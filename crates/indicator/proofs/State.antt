@@ -5,7 +5,7 @@
 --     reference-told   13's words: a previous close, or a trade of the instrument by then
 --     book-latest      the book's words: the latest quote record by then, and empty where there is none
 -- Assumes nothing.
-use Rattle.std.specs.Prelude.{ℕ, suc, ◌+◌, ◌≤◌, ◌<◌, ◌≡◌, Bool, false, T, leb, eqb, pos, ◌*ℤ◌}
+use Rattle.std.specs.Prelude.{ℕ, suc, ◌+◌, ◌≤◌, ◌<◌, ◌≡◌, Bool, false, T, leb, eqb, pos, ◌*ℤ◌, Option, Some, None}
 use Rattle.std.proofs.Common.{zero-le, sym, subst, ◌∙◌, le_trans, le_refl, arith, le-leb, leb→le, le→leb}
 use Rattle.std.proofs.Math.Path.{refl, ap}
 use Rattle.std.proofs.Math.Bool.{true, cond}
@@ -16,8 +16,6 @@ use Rattle.field.specs.declared.Price.{Price}
 use Rattle.field.specs.declared.Field.{Field}
 use Rattle.field.specs.declared.Field.TheVariants.{Header, PreviousClose, Trade, Quote, End}
 use Rattle.market.specs.Market.{window_length}
-use Rattle.indicator.specs.declared.Side.{Side}
-use Rattle.indicator.specs.declared.Side.TheVariants.{Absent, At}
 use Rattle.indicator.specs.declared.Indicator.{Indicator}
 use Rattle.indicator.specs.Indicator.{empty, present, cents_of, after_trade, after_close, after_quote, else_at, value_of, taken, stamp, after_from, after, cents_at, twap_sum, has_reference}
 use Rattle.indicator.specs.laws.Sums.{sum-const}
@@ -141,9 +139,9 @@ close-told : (mine rest : Bool) (s : Indicator) (price : Price) → cond (presen
 close-told false rest s price = refl
 close-told true rest s price = by_side s.reference
   where
-    by_side : (r : Side) → cond (present (else_at r price)) true rest ≡ cond (present r) true true
-    by_side Absent = refl
-    by_side (At p) = refl
+    by_side : (r : Option Price) → cond (present (else_at r price)) true rest ≡ cond (present r) true true
+    by_side None = refl
+    by_side (Some p) = refl
 
 trade-told : (counts mine rest : Bool) (s : Indicator) (price : Price) → cond (present (cond counts (cond mine (after_trade s price) s) s).reference) true rest ≡ cond (present s.reference) true (cond mine (cond counts true rest) rest)
 trade-told true true rest s price = by-test (present s.reference)
@@ -174,7 +172,7 @@ module _ (i t : ℕ) where
       ∙ trade-told (leb time t) (eqb instrument i) (told_by i t fs) s price
   reference-from s (Quote time instrument sides bid offer ∷ fs) =
       reference-from (cond (leb time t) (cond (eqb instrument i) (after_quote s sides bid offer) s) s) fs
-      ∙ ap (λ (x : Side). cond (present x) true (told_by i t fs)) (quote-told (leb time t) (eqb instrument i) s sides bid offer)
+      ∙ ap (λ (x : Option Price). cond (present x) true (told_by i t fs)) (quote-told (leb time t) (eqb instrument i) s sides bid offer)
   reference-from s (End count ∷ fs) = ap (λ (x : Indicator). present x.reference) (due i t s (End count) fs (omega arith)) ∙ reference-from s fs
 
   -- there is a reference exactly where there was a previous close, or a trade by then

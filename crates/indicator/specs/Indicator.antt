@@ -1,44 +1,42 @@
 -- RULES 7: the indicator of one instrument, a small state handed back changed by each record; and RULES 6: its sum over the milliseconds of a
 -- window.
-use Rattle.std.specs.Prelude.{ℕ, zero, suc, ◌+◌, Bool, true, false, cond, List, [], ◌∷◌, leb, eqb, ℤ, pos, ◌+ℤ◌}
+use Rattle.std.specs.Prelude.{ℕ, zero, suc, ◌+◌, Bool, true, false, cond, List, [], ◌∷◌, leb, eqb, ℤ, pos, ◌+ℤ◌, Option, Some, None}
 use Rattle.std.specs.Int.Signed.{lt_z}
 use Rattle.field.specs.declared.Price.{Price}
 use Rattle.field.specs.declared.Field.{Field}
 use Rattle.field.specs.declared.Field.TheVariants.{Header, PreviousClose, Trade, Quote, End}
 use Rattle.field.specs.Judging.{has_bid, has_offer}
 use Rattle.market.specs.Market.{window_length}
-use Rattle.indicator.specs.declared.Side.{Side}
-use Rattle.indicator.specs.declared.Side.TheVariants.{Absent, At}
 use Rattle.indicator.specs.declared.Indicator.{Indicator}
 
 -- ---- the state
 
 -- a price that is there or not
-abbrev pub side_of : Bool → Price → Side
-side_of here price = cond here (At price) Absent
+abbrev pub side_of : Bool → Price → Option Price
+side_of here price = cond here (Some price) None
 
 -- whether it is there
-abbrev pub present : Side → Bool
-present Absent = false
-present (At p) = true
+abbrev pub present : Option Price → Bool
+present None = false
+present (Some p) = true
 
 -- its cents; a price that is not there counts 0, and 13 is given before it is counted
-abbrev pub cents_of : Side → ℤ
-cents_of Absent = pos 0
-cents_of (At p) = p.cents
+abbrev pub cents_of : Option Price → ℤ
+cents_of None = pos 0
+cents_of (Some p) = p.cents
 
 -- no reference, and an empty book
 abbrev pub empty : Indicator
-empty = record { reference = Absent; bid = Absent; offer = Absent }
+empty = record { reference = None; bid = None; offer = None }
 
 -- RULES 7: a trade becomes the reference
 abbrev pub after_trade : Indicator → Price → Indicator
-after_trade s price = record { reference = At price; bid = s.bid; offer = s.offer }
+after_trade s price = record { reference = Some price; bid = s.bid; offer = s.offer }
 
 -- the side where it is there, else the price
-abbrev pub else_at : Side → Price → Side
-else_at Absent price = At price
-else_at (At p) price = At p
+abbrev pub else_at : Option Price → Price → Option Price
+else_at None price = Some price
+else_at (Some p) price = Some p
 
 -- RULES 7: the previous close is the reference where there was no trade
 abbrev pub after_close : Indicator → Price → Indicator
@@ -53,22 +51,22 @@ abbrev pub below : Price → Price → Bool
 below price other = lt_z price.cents other.cents
 
 -- RULES 7: the offer where it is below the reference, else the reference
-abbrev pub below_offer : Price → Side → Price
-below_offer reference Absent = reference
-below_offer reference (At o) = cond (below o reference) o reference
+abbrev pub below_offer : Price → Option Price → Price
+below_offer reference None = reference
+below_offer reference (Some o) = cond (below o reference) o reference
 
 -- RULES 7: the bid where it is above the reference
-abbrev pub inside_book : Price → Side → Side → Price
-inside_book reference Absent offer = below_offer reference offer
-inside_book reference (At b) offer = cond (below reference b) b (below_offer reference offer)
+abbrev pub inside_book : Price → Option Price → Option Price → Price
+inside_book reference None offer = below_offer reference offer
+inside_book reference (Some b) offer = cond (below reference b) b (below_offer reference offer)
 
 -- of reference, bid and offer; there is no indicator where there is no reference
-abbrev pub value_by : Side → Side → Side → Side
-value_by Absent bid offer = Absent
-value_by (At p) bid offer = At (inside_book p bid offer)
+abbrev pub value_by : Option Price → Option Price → Option Price → Option Price
+value_by None bid offer = None
+value_by (Some p) bid offer = Some (inside_book p bid offer)
 
 -- the indicator of a state
-abbrev pub value_of : Indicator → Side
+abbrev pub value_of : Indicator → Option Price
 value_of s = value_by s.reference s.bid s.offer
 
 -- ---- the fields of a sheet
@@ -100,7 +98,7 @@ abbrev pub after : ℕ → ℕ → List Field → Indicator
 after i t fs = after_from i t empty fs
 
 -- RULES 7: the indicator at a millisecond, behind every record of that millisecond
-abbrev pub indicator_at : ℕ → ℕ → List Field → Side
+abbrev pub indicator_at : ℕ → ℕ → List Field → Option Price
 indicator_at i t fs = value_of (after i t fs)
 
 -- the same in cents, as a function of the millisecond

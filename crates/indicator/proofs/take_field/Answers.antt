@@ -1,36 +1,33 @@
 -- `indicator::take_field` meets its contract. Assumes nothing.
 use Rattle.indicator.specs.Indicator.{taken}
 use borrow.Author.Tests.{eq-eqb, ne_eqb}
+use borrow.Author.Rules.{rules}
 use Rattle.indicator.proofs.take_field.Goals as goal
 
-pub returns-then-of-instrument : goal.returns-then-of-instrument
+pub returns-in-PreviousClose : goal.returns-in-PreviousClose
 unfolding taken
-returns-then-of-instrument c = simp (c.close.ensures, c.in-PreviousClose.is, eq-eqb _ _ c.if-of-instrument.true)
+returns-in-PreviousClose c = simp (c.close.ensures, c.in-PreviousClose.is, eq-eqb _ _ c.if-of-instrument.true)
 
-pub returns-then-of-instrument-2 : goal.returns-then-of-instrument-2
+pub returns-in-Trade : goal.returns-in-Trade
 unfolding taken
-returns-then-of-instrument-2 c = simp (c.trade.ensures, c.in-Trade.is, eq-eqb _ _ c.if-of-instrument-2.true)
+returns-in-Trade c = simp (c.trade.ensures, c.in-Trade.is, eq-eqb _ _ c.if-of-instrument-2.true)
 
-pub returns-then-of-instrument-3 : goal.returns-then-of-instrument-3
+pub returns-in-Quote : goal.returns-in-Quote
 unfolding taken
-returns-then-of-instrument-3 c = simp (c.quote.ensures, c.in-Quote.is, eq-eqb _ _ c.if-of-instrument-3.true)
+returns-in-Quote c = simp (c.quote.ensures, c.in-Quote.is, eq-eqb _ _ c.if-of-instrument-3.true)
 
-pub returns-in-Header : goal.returns-in-Header
+pub returns-in_default : goal.returns-in_default
 unfolding taken
-returns-in-Header c = simp c.in-Header.is
+returns-in_default c = simp (c.in-PreviousClose.is, ne_eqb _ _ c.if-of-instrument.false)
 
-pub returns-else-of-instrument : goal.returns-else-of-instrument
+pub returns-in_default-2 : goal.returns-in_default-2
 unfolding taken
-returns-else-of-instrument c = simp (c.in-PreviousClose.is, ne_eqb _ _ c.if-of-instrument.false)
+returns-in_default-2 c = simp (c.in-Trade.is, ne_eqb _ _ c.if-of-instrument-2.false)
 
-pub returns-else-of-instrument-2 : goal.returns-else-of-instrument-2
+pub returns-in_default-3 : goal.returns-in_default-3
 unfolding taken
-returns-else-of-instrument-2 c = simp (c.in-Trade.is, ne_eqb _ _ c.if-of-instrument-2.false)
+returns-in_default-3 c = simp (c.in-Quote.is, ne_eqb _ _ c.if-of-instrument-3.false)
 
-pub returns-else-of-instrument-3 : goal.returns-else-of-instrument-3
+pub returns-in_default-4 : goal.returns-in_default-4
 unfolding taken
-returns-else-of-instrument-3 c = simp (c.in-Quote.is, ne_eqb _ _ c.if-of-instrument-3.false)
-
-pub returns-in-End : goal.returns-in-End
-unfolding taken
-returns-in-End c = simp c.in-End.is
+returns-in_default-4 c = search rules

@@ -2,30 +2,28 @@
 --     after-changed  a change of the state that goes along field by field goes along over the whole list
 --     others-stay    the indicators of other instruments stay
 -- Assumes nothing.
-use Rattle.std.specs.Prelude.{ℕ, ◌≡◌, Bool, true, false, cond, List, [], ◌∷◌, map, leb, eqb}
+use Rattle.std.specs.Prelude.{ℕ, ◌≡◌, Bool, true, false, cond, List, [], ◌∷◌, map, leb, eqb, Option, Some, None}
 use Rattle.std.proofs.Math.Path.{refl}
 use Rattle.std.proofs.Common.{sym, ap, ap₂, ◌∙◌, eqb-true, ne_eqb}
 use Rattle.field.specs.declared.Price.{Price}
 use Rattle.field.specs.declared.Field.{Field}
 use Rattle.field.specs.declared.Field.TheVariants.{Header, PreviousClose, Trade, Quote, End}
 use Rattle.field.specs.Repriced.{concerns, changed, Sides, repriced}
-use Rattle.indicator.specs.declared.Side.{Side}
-use Rattle.indicator.specs.declared.Side.TheVariants.{Absent, At}
 use Rattle.indicator.specs.declared.Indicator.{Indicator}
 use Rattle.indicator.specs.Indicator.{present, empty, else_at, after_trade, after_close, after_quote, taken, stamp, after_from, after}
 
 -- a side moved by m
-abbrev pub on_side : (Price → Price) → Side → Side
-on_side m Absent = Absent
-on_side m (At p) = At (m p)
+abbrev pub on_side : (Price → Price) → Option Price → Option Price
+on_side m None = None
+on_side m (Some p) = Some (m p)
 
-pub on-present : (m : Price → Price) (r : Side) → present (on_side m r) ≡ present r
-on-present m Absent = refl
-on-present m (At p) = refl
+pub on-present : (m : Price → Price) (r : Option Price) → present (on_side m r) ≡ present r
+on-present m None = refl
+on-present m (Some p) = refl
 
-pub on-else : (m : Price → Price) (r : Side) (price : Price) → else_at (on_side m r) (m price) ≡ on_side m (else_at r price)
-on-else m Absent price = refl
-on-else m (At p) price = refl
+pub on-else : (m : Price → Price) (r : Option Price) (price : Price) → else_at (on_side m r) (m price) ≡ on_side m (else_at r price)
+on-else m None price = refl
+on-else m (Some p) price = refl
 
 -- a function of a choice is the choice of its values
 pub cond_map : {A B : Type 0} (g : A → B) (t : Bool) (x y : A) → cond t (g x) (g y) ≡ g (cond t x y)

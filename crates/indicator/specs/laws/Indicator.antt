@@ -3,14 +3,13 @@
 --     Counted, Parted  the fields that count at a time, and those that come later
 --     told_by          13's words: a previous close, or a trade of the instrument by then
 --     latest_quote     the book's words: the latest quote record by then
-use Rattle.std.specs.Prelude.{ℕ, suc, ◌≤◌, ◌≡◌, Bool, false, leb, eqb}
+use Rattle.std.specs.Prelude.{ℕ, suc, ◌≤◌, ◌≡◌, Bool, false, leb, eqb, Option}
 use Rattle.std.proofs.Math.Bool.{true, cond}
 use mathlib.Core.List.{List, [], ◌∷◌, ◌++◌}
 use Rattle.field.specs.declared.Price.{Price}
 use Rattle.field.specs.declared.Field.{Field}
 use Rattle.field.specs.declared.Field.TheVariants.{Header, PreviousClose, Trade, Quote, End}
 use Rattle.field.specs.Judging.{has_bid, has_offer}
-use Rattle.indicator.specs.declared.Side.{Side}
 use Rattle.indicator.specs.declared.Indicator.{Indicator}
 use Rattle.indicator.specs.Indicator.{side_of, taken, stamp}
 
@@ -71,8 +70,8 @@ latest_quote i t (End count ∷ fs) = latest_quote i t fs
 
 -- the two sides
 pub record Book : Type 0 where
-  pub bid : Side
-  pub offer : Side
+  pub bid : Option Price
+  pub offer : Option Price
 
 abbrev pub book_of : Indicator → Book
 book_of s = record { bid = s.bid; offer = s.offer }

@@ -5,7 +5,7 @@
 --     line-is               what it comes to is the sum over the window's milliseconds, or missing
 --     Fair, fair-line       the sizes that keep every total within 64 bits
 -- Assumes nothing.
-use Rattle.std.specs.Prelude.{ℕ, ◌+◌, ◌-◌, ◌*◌, ◌≤◌, ◌<◌, ◌≡◌, Bool, leb, eqb, ℤ, pos, nat_abs, ◌+ℤ◌, ◌*ℤ◌, replicate}
+use Rattle.std.specs.Prelude.{ℕ, ◌+◌, ◌-◌, ◌*◌, ◌≤◌, ◌<◌, ◌≡◌, Bool, leb, eqb, ℤ, pos, nat_abs, ◌+ℤ◌, ◌*ℤ◌, replicate, Option, None}
 use Rattle.std.proofs.Common.{zero-le, sym, ◌∙◌, le_refl, arith}
 use Rattle.std.proofs.Math.Path.{refl, ap}
 use Rattle.std.proofs.Math.Bool.{true, false, cond}
@@ -23,8 +23,6 @@ use Rattle.market.specs.declared.Metal.{Metal}
 use Rattle.market.specs.Market.{start_of, window_length}
 use Rattle.market.specs.laws.Rows.{window-length}
 use Rattle.sheet.specs.Fields.{Each}
-use Rattle.indicator.specs.declared.Side.{Side}
-use Rattle.indicator.specs.declared.Side.TheVariants.{Absent}
 use Rattle.indicator.specs.declared.Indicator.{Indicator}
 use Rattle.indicator.specs.Indicator.{cents_of, empty, value_of, taken, stamp}
 use Rattle.indicator.specs.Spans.{PricedSpan, is_of, spans_from, spans_of, products_of}
@@ -66,11 +64,11 @@ unfoldable pub cut_at : ℕ → ℕ → ℕ → ℕ
 cut_at since until time = cond (leb time since) since (cond (leb until time) until time)
 
 -- a total with a span more
-abbrev pub with_span : Total → Side → ℕ → Total
+abbrev pub with_span : Total → Option Price → ℕ → Total
 with_span total side n = record { cents = total.cents +ℤ pos n *ℤ cents_of side }
 
 -- a side that is absent counts 0
-pub nothing-absent : (total : Total) (n : ℕ) → total ≡ with_span total Absent n
+pub nothing-absent : (total : Total) (n : ℕ) → total ≡ with_span total None n
 nothing-absent total n = ap (λ (z : ℤ). record { cents = z }) (sym (ap (λ (z : ℤ). total.cents +ℤ z) (*ℤ-zero (pos n)) ∙ +ℤ_idr total.cents))
 
 -- the line with a field of its instrument, whose window starts at start
@@ -362,13 +360,13 @@ pub told-now : {a b x : Bool} → a ≡ false → x ≡ b → x ≡ cond a true 
 told-now e f = rw (e, f) refl
 
 -- the line as the code puts it together
-pub line-built : (i start : ℕ) (l : Line) (f : Field) {next : Indicator} {x : Stamp} {to : ℕ} {v : Side} {total : Total} {told : Bool} → x ≡ stamp_of f → next ≡ taken i l.state f → to ≡ cut_at l.since (start + 300000) x.time
+pub line-built : (i start : ℕ) (l : Line) (f : Field) {next : Indicator} {x : Stamp} {to : ℕ} {v : Option Price} {total : Total} {told : Bool} → x ≡ stamp_of f → next ≡ taken i l.state f → to ≡ cut_at l.since (start + 300000) x.time
     → v ≡ value_of l.state → total ≡ with_span l.total v (to - l.since) → told ≡ cond l.told true (tells start x) → ◌≡◌ {A = Line} (record { state = next; told = told; since = to; total = total }) (line_with i start l f)
 unfolding line_with
 line-built i start l f e d c g h k = rw (d, k, h, g, c, e, stamp-is f, window-length) refl
 
 -- what it comes to, as the code tells it
-pub sum_told : (start : ℕ) (l : Line) {v : Side} {total : Total} → l.told ≡ true → v ≡ value_of l.state → total ≡ with_span l.total v (start + 300000 - l.since) → sum total.cents ≡ line_sum start l
+pub sum_told : (start : ℕ) (l : Line) {v : Option Price} {total : Total} → l.told ≡ true → v ≡ value_of l.state → total ≡ with_span l.total v (start + 300000 - l.since) → sum total.cents ≡ line_sum start l
 unfolding line_sum
 sum_told start l e g h = rw (e, h, g, window-length) refl
 

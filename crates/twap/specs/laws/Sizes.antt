@@ -1,7 +1,7 @@
 -- How large the indicator and its sum can be: every price of an accepted sheet is at most 99,999,999 in size, so the indicator is, and the sum
 -- over a window at most 300,000 times that.
 -- Assumes nothing.
-use Rattle.std.specs.Prelude.{ℕ, ◌*◌, ◌≤◌, Bool, true, false, cond, List, [], ◌∷◌, leb, eqb, nat_abs}
+use Rattle.std.specs.Prelude.{ℕ, ◌*◌, ◌≤◌, Bool, true, false, cond, List, [], ◌∷◌, leb, eqb, nat_abs, Option, Some, None}
 use Rattle.std.proofs.Common.{arith}
 use Rattle.field.specs.declared.Price.{Price}
 use Rattle.field.specs.declared.Field.{Field}
@@ -12,15 +12,13 @@ use Rattle.market.specs.Market.{window_length}
 use Rattle.market.specs.laws.Rows.{window-length}
 use Rattle.sheet.specs.Fields.{fields_of, Each}
 use Rattle.sheet.specs.laws.Accepted.{accepted-sound}
-use Rattle.indicator.specs.declared.Side.{Side}
-use Rattle.indicator.specs.declared.Side.TheVariants.{Absent, At}
 use Rattle.indicator.specs.declared.Indicator.{Indicator}
 use Rattle.indicator.specs.Indicator.{cents_of, empty, side_of, else_at, below, below_offer, value_by, value_of, after_close, after_trade, after_quote, taken, stamp, after_from, after, cents_at, sum_from, twap_sum}
 use Rattle.indicator.specs.laws.Sums.{sum-size}
 use Rattle.twap.specs.Span.{Accepted}
 
 -- a price in its range, or none
-abbrev pub Small : Side → Type 0
+abbrev pub Small : Option Price → Type 0
 Small r = nat_abs (cents_of r) ≤ 99999999
 
 -- a state whose prices are
@@ -43,9 +41,9 @@ small-side true p h = h
 small-side false p h = omega arith
 
 -- a previous close where there was no trade
-small-else : (r : Side) (p : Price) → Small r → nat_abs p.cents ≤ 99999999 → Small (else_at r p)
-small-else Absent p h k = k
-small-else (At q) p h k = h
+small-else : (r : Option Price) (p : Price) → Small r → nat_abs p.cents ≤ 99999999 → Small (else_at r p)
+small-else None p h k = k
+small-else (Some q) p h k = h
 
 -- a field whose values are in their ranges keeps it so
 pub small-taken : (i : ℕ) (s : Indicator) (f : Field) → SmallState s → Sound alone f → SmallState (taken i s f)
@@ -73,14 +71,14 @@ small-cond : (b : Bool) (p q : Price) → nat_abs p.cents ≤ 99999999 → nat_a
 small-cond true p q h k = h
 small-cond false p q h k = k
 
-small-offer : (p : Price) (o : Side) → nat_abs p.cents ≤ 99999999 → Small o → nat_abs (below_offer p o).cents ≤ 99999999
-small-offer p Absent h k = h
-small-offer p (At o) h k = small-cond (below o p) o p k h
+small-offer : (p : Price) (o : Option Price) → nat_abs p.cents ≤ 99999999 → Small o → nat_abs (below_offer p o).cents ≤ 99999999
+small-offer p None h k = h
+small-offer p (Some o) h k = small-cond (below o p) o p k h
 
-small_by : (r b o : Side) → Small r → Small b → Small o → Small (value_by r b o)
-small_by Absent b o h k l = h
-small_by (At p) Absent o h k l = small-offer p o h l
-small_by (At p) (At b) o h k l = small-cond (below p b) b (below_offer p o) k (small-offer p o h l)
+small_by : (r b o : Option Price) → Small r → Small b → Small o → Small (value_by r b o)
+small_by None b o h k l = h
+small_by (Some p) None o h k l = small-offer p o h l
+small_by (Some p) (Some b) o h k l = small-cond (below p b) b (below_offer p o) k (small-offer p o h l)
 
 pub small-value : (s : Indicator) → SmallState s → Small (value_of s)
 small-value s h = small_by s.reference s.bid s.offer h.reference h.bid h.offer
