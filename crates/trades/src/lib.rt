@@ -7,7 +7,7 @@ ghost use Rattle.field.specs.Reading.{body_at};
 ghost use Rattle.field.specs.laws.Field.{Headed};
 ghost use Rattle.sheet.specs.Fields.{fields_of};
 ghost use Rattle.sheet.specs.laws.ByInstrument.{Filled};
-ghost use Rattle.trades.specs.Trades.{no_trades, totals_of, Told};
+ghost use Rattle.trades.specs.Trades.{totals_of, Told};
 ghost use Rattle.trades.specs.laws.Trades.{Small};
 ghost use Rattle.trades.specs.laws.Pass.{with_trade, counted_in};
 
@@ -31,40 +31,31 @@ pub struct Traded {
     pub totals: [Total; 12],
 }
 
-// No trade on any instrument.
-fn no_trades() -> [Total; 12]
-    ensures { result ≡ no_trades }
-{
-    let none = Total { lots: 0, value: 0 };
-    [none; 12]
-}
+const NO_TRADES: [Total; 12] = [Total { lots: 0, value: 0 }; 12];
 
-// A total with one trade more.
-fn with_trade(total: Total, price: Price, lots: u16) -> Total
-    requires { Small 1048576 total }
-    ensures { result ≡ with_trade total price lots }
-{
-    let cents = price.cents;
-    let value = total.value;
-    Total {
-        lots: total.lots + lots as u64,
-        value: value + lots as i64 * cents as i64,
+impl Total {
+    // With one trade more.
+    fn with_trade(self, price: Price, lots: u16) -> Self
+        requires { Small 1048576 self }
+        ensures { result ≡ with_trade self price lots }
+    {
+        Total {
+            lots: self.lots + lots as u64,
+            value: self.value + lots as i64 * price.cents as i64,
+        }
     }
 }
 
-// What a field adds to the totals: nothing, or a trade to its instrument's.
+// A trade that counts: what it adds to its instrument's total.
 #[derive(Clone, Copy)]
-pub enum Counted {
-    Nothing,
-    Trade {
-        instrument: u8,
-        price: Price,
-        lots: u16,
-    },
+pub struct Counted {
+    pub instrument: u8,
+    pub price: Price,
+    pub lots: u16,
 }
 
 // A trade counts where it lies in its instrument's window, by the row of the sheet's metal; no other field does.
-fn count_in(row: Metal, field: Field) -> Counted
+fn count_in(row: Metal, field: Field) -> Option<Counted>
     ensures { result ≡ counted_in row field }
 {
     match field {
@@ -73,34 +64,12 @@ fn count_in(row: Metal, field: Field) -> Counted
             instrument,
             price,
             lots,
-        } => {
-            if in_window(start_in(row, instrument), time) {
-                Counted::Trade {
-                    instrument,
-                    price,
-                    lots,
-                }
-            } else {
-                Counted::Nothing
-            }
-        }
-        Field::Header {
-            metal: _,
-            marks: _,
-            form: _,
-        } => Counted::Nothing,
-        Field::PreviousClose {
-            instrument: _,
-            price: _,
-        } => Counted::Nothing,
-        Field::Quote {
-            time: _,
-            instrument: _,
-            sides: _,
-            bid: _,
-            offer: _,
-        } => Counted::Nothing,
-        Field::End { count: _ } => Counted::Nothing,
+        } if in_window(start_in(row, instrument), time) => Some(Counted {
+            instrument,
+            price,
+            lots,
+        }),
+        _ => None,
     }
 }
 
@@ -109,9 +78,7 @@ fn trade_here(sheet: &[u8], at: usize) -> Field
     requires { Headed sheet.now at 3 }
     ensures { result ≡ trade_of (body_at sheet.now at 3) }
 {
-    let start = at + 3;
-    let next = at + 14;
-    trade_of(&sheet[start..next])
+    trade_of(&sheet[at + 3..at + 14])
 }
 
 // The totals of a sheet that fields fill to its end, their values in their ranges: only trades are looked into. The metal's row is looked up once, and
@@ -121,29 +88,20 @@ fn totals_of(sheet: &[u8], metal: u8) -> [Total; 12]
     ensures { result ≡ totals_of metal (fields_of sheet.now) }
 {
     let row = metal_of(metal);
-    let mut totals = no_trades();
+    let mut totals = NO_TRADES;
     let mut at = 0;
     while at < sheet.len() {
         let tag = sheet[at];
         if tag == layout::TRADE {
-            match count_in(row, trade_here(sheet, at)) {
-                Counted::Trade {
-                    instrument,
-                    price,
-                    lots,
-                } => {
-                    let i = instrument as usize;
-                    totals[i] = with_trade(totals[i], price, lots);
-                    at = at + 14;
-                }
-                Counted::Nothing => {
-                    at = at + 14;
-                }
+            if let Some(trade) = count_in(row, trade_here(sheet, at)) {
+                let i = trade.instrument as usize;
+                totals[i] = totals[i].with_trade(trade.price, trade.lots);
             }
+            at += 14;
         } else if tag == layout::QUOTE {
-            at = at + 17;
+            at += 17;
         } else {
-            at = at + size_of(tag);
+            at += size_of(tag);
         }
     }
     totals
@@ -161,7 +119,7 @@ pub fn totals(sheet: &[u8]) -> Traded
         },
         Judged::Refused(_, _) => Traded {
             judged,
-            totals: no_trades(),
+            totals: NO_TRADES,
         },
     }
 }

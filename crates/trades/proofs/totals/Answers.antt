@@ -5,20 +5,8 @@ use Rattle.trades.proofs.totals.Goals as goal
 
 ruleset judging = (known-filled, known-short, told-accepted, told-refused, rules)
 
-pub judge_sheet-judged-requires : goal.judge_sheet-judged-requires
-judge_sheet-judged-requires c = search judging
-
-pub enum_known-judged : goal.enum_known-judged
-enum_known-judged c = search judging
-
 pub totals_of-requires : goal.totals_of-requires
 totals_of-requires c = search judging
-
-pub enum_told-1 : goal.enum_told-1
-enum_told-1 c = search judging
-
-pub no_trades-requires : goal.no_trades-requires
-no_trades-requires c = search judging
 
 pub returns-in-Accepted : goal.returns-in-Accepted
 returns-in-Accepted c = search judging

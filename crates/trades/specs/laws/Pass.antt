@@ -1,7 +1,7 @@
 -- The pass over the fields as the code makes it: twelve totals, of which a trade that counts changes its instrument's. What that does to one total
 -- stands here, and the pass itself is `sheet`'s pass by instruments.
 -- Assumes nothing.
-use Rattle.std.specs.Prelude.{ℕ, ◌+◌, ◌≤◌, ◌<◌, ◌≡◌, Bool, true, false, cond, List, [], ◌∷◌, ◌++◌, eqb, ℤ, pos, ◌+ℤ◌, ◌*ℤ◌, length, get_or, set}
+use Rattle.std.specs.Prelude.{ℕ, ◌+◌, ◌≤◌, ◌<◌, ◌≡◌, Bool, true, false, cond, List, [], ◌∷◌, ◌++◌, eqb, ℤ, pos, ◌+ℤ◌, ◌*ℤ◌, length, get_or, set, Option, Some, None}
 use Rattle.std.proofs.Math.Path.{refl, sym, ap}
 use Rattle.std.proofs.Common.{subst, ◌∙◌, append-nil, arith, eqb-true, ext_get_or, Fits}
 use Rattle.std.proofs.lemmas.Bool.{eqb-false}
@@ -28,7 +28,6 @@ use Rattle.sheet.specs.laws.ByInstrument.{Filled, accepted-filled, Here, here-he
 use Rattle.sheet.specs.laws.ByInstrument as pass
 use Rattle.trades.specs.declared.Total.{Total}
 use Rattle.trades.specs.declared.Counted.{Counted}
-use Rattle.trades.specs.declared.Counted.TheVariants as C
 use Rattle.trades.specs.Trades.{Deal, trade_in, trades_in, lots_in, value_in, sums_of, total_of, totals_of, none, no_trades, totals_by, Told}
 use Rattle.trades.specs.laws.Trades.{Small, same_total, join, join-none, total-append, trade-other, trade-outside, trade-inside, tag-three, totals-length, totals-at, totals-none, totals-small}
 
@@ -36,21 +35,25 @@ use Rattle.trades.specs.laws.Trades.{Small, same_total, join, join-none, total-a
 abbrev pub with_trade : Total → Price → ℕ → Total
 with_trade t price lots = record { lots = t.lots + lots; value = t.value +ℤ pos lots *ℤ price.cents }
 
+-- a trade that counts
+abbrev pub trade_that : ℕ → Price → ℕ → Counted
+trade_that instrument price lots = record { instrument = instrument; price = price; lots = lots }
+
 -- a trade counts inside its instrument's window, and no other field does
-unfoldable pub counted_of : ℕ → Field → Counted
-counted_of metal (Header m marks form) = C.Nothing
-counted_of metal (PreviousClose instrument price) = C.Nothing
-counted_of metal (Trade time instrument price lots) = cond (in_window (start_of metal instrument) time) (C.Trade instrument price lots) C.Nothing
-counted_of metal (Quote time instrument sides bid offer) = C.Nothing
-counted_of metal (End count) = C.Nothing
+unfoldable pub counted_of : ℕ → Field → Option Counted
+counted_of metal (Header m marks form) = None
+counted_of metal (PreviousClose instrument price) = None
+counted_of metal (Trade time instrument price lots) = cond (in_window (start_of metal instrument) time) (Some (trade_that instrument price lots)) None
+counted_of metal (Quote time instrument sides bid offer) = None
+counted_of metal (End count) = None
 
 -- the same by the row of the metal, which the code has looked up
-unfoldable pub counted_in : Metal → Field → Counted
-counted_in row (Header m marks form) = C.Nothing
-counted_in row (PreviousClose instrument price) = C.Nothing
-counted_in row (Trade time instrument price lots) = cond (in_window (start_in row instrument) time) (C.Trade instrument price lots) C.Nothing
-counted_in row (Quote time instrument sides bid offer) = C.Nothing
-counted_in row (End count) = C.Nothing
+unfoldable pub counted_in : Metal → Field → Option Counted
+counted_in row (Header m marks form) = None
+counted_in row (PreviousClose instrument price) = None
+counted_in row (Trade time instrument price lots) = cond (in_window (start_in row instrument) time) (Some (trade_that instrument price lots)) None
+counted_in row (Quote time instrument sides bid offer) = None
+counted_in row (End count) = None
 
 counted-row : (metal : ℕ) (f : Field) → counted_in (metal_of metal) f ≡ counted_of metal f
 unfolding counted_in counted_of start_in start_of
@@ -80,13 +83,13 @@ module _ (metal i : ℕ) (t : Total) (f : Field) where
   total-more price lots e = rw e (same_total (omega arith) (ap (λ (z : ℤ). t.value +ℤ z) (+ℤ_idr (pos lots *ℤ price.cents))))
 
 -- what counts as nothing changes no total
-counted_none : (metal : ℕ) (f : Field) → counted_of metal f ≡ C.Nothing → (i : ℕ) → trade_in metal i f ≡ []
+counted_none : (metal : ℕ) (f : Field) → counted_of metal f ≡ None → (i : ℕ) → trade_in metal i f ≡ []
 unfolding counted_of trade_in
 counted_none metal (Header m marks form) e i = refl
 counted_none metal (PreviousClose instrument price) e i = refl
 counted_none metal (Trade time instrument price lots) e i = by-own (eqb instrument i) refl
   where
-    outside : (b : Bool) → in_window (start_of metal instrument) time ≡ b → cond b (C.Trade instrument price lots) C.Nothing ≡ C.Nothing → in_window (start_of metal instrument) time ≡ false
+    outside : (b : Bool) → in_window (start_of metal instrument) time ≡ b → cond b (Some (trade_that instrument price lots)) None ≡ None → in_window (start_of metal instrument) time ≡ false
     outside true w d = clash cc
     outside false w d = w
 
@@ -101,24 +104,22 @@ record Counts (metal j : ℕ) (price : Price) (lots : ℕ) (f : Field) : Type 0 
   own : trade_in metal j f ≡ record { price = price.cents; lots = lots } ∷ []
   other : (i : ℕ) → (j ≡ i → ⊥) → trade_in metal i f ≡ []
 
-counted-one : (metal : ℕ) (f : Field) (j : ℕ) (price : Price) (lots : ℕ) → counted_of metal f ≡ C.Trade j price lots → Counts metal j price lots f
+counted-one : (metal : ℕ) (f : Field) (trade : Counted) → counted_of metal f ≡ Some trade → Counts metal trade.instrument trade.price trade.lots f
 unfolding counted_of
-counted-one metal (Header m marks form) j price lots e = clash cc
-counted-one metal (PreviousClose instrument p) j price lots e = clash cc
-counted-one metal (Trade time instrument p n) j price lots e = by-window (in_window (start_of metal instrument) time) refl e
+counted-one metal (Header m marks form) trade e = clash cc
+counted-one metal (PreviousClose instrument p) trade e = clash cc
+counted-one metal (Trade time instrument p n) trade e = by-window (in_window (start_of metal instrument) time) refl e
   where
-    by-window : (b : Bool) → in_window (start_of metal instrument) time ≡ b → cond b (C.Trade instrument p n) C.Nothing ≡ C.Trade j price lots → Counts metal j price lots (Trade time instrument p n)
+    by-window : (b : Bool) → in_window (start_of metal instrument) time ≡ b → cond b (Some (trade_that instrument p n)) None ≡ Some trade → Counts metal trade.instrument trade.price trade.lots (Trade time instrument p n)
     by-window true w d =
-        let same : instrument ≡ j = cc in
-        let cents : p ≡ price = cc in
-        let many : n ≡ lots = cc in
-        rw (sym same, sym cents, sym many) (record {
+        let whole : trade_that instrument p n ≡ trade = cc in
+        rw (sym whole) (record {
           own = trade-inside metal instrument time instrument p n refl w;
           other = λ i k. trade-other metal i time instrument p n k;
         })
     by-window false w d = clash cc
-counted-one metal (Quote time instrument sides bid offer) j price lots e = clash cc
-counted-one metal (End count) j price lots e = clash cc
+counted-one metal (Quote time instrument sides bid offer) trade e = clash cc
+counted-one metal (End count) trade e = clash cc
 
 -- ---- at the places of the code
 
@@ -127,11 +128,11 @@ module _ (row : Metal) {f : Field} {time instrument : ℕ} {price : Price} {lots
   tested : in_window (start_in row instrument) time ≡ b
   tested = ap (λ (s : ℕ). in_window s time) (sym e) ∙ sym w
 
-  pub counted-in : b ≡ true → C.Trade instrument price lots ≡ counted_in row f
+  pub counted-in : b ≡ true → Some (trade_that instrument price lots) ≡ counted_in row f
   unfolding counted_in
   counted-in h = sym (rw (d, tested, h) refl)
 
-  pub counted-out : b ≡ false → C.Nothing ≡ counted_in row f
+  pub counted-out : b ≡ false → None ≡ counted_in row f
   unfolding counted_in
   counted-out h = sym (rw (d, tested, h) refl)
 
@@ -140,20 +141,23 @@ pub counted-by : (row : Metal) {f g : Field} → f ≡ g → counted_in row g �
 counted-by row e = sym (ap (counted_in row) e)
 
 -- a trade that counts is on an instrument, where the field's values are in their ranges
-on-by : (row : Metal) (f : Field) (instrument : ℕ) (price : Price) (lots : ℕ) → counted_in row f ≡ C.Trade instrument price lots → Sound alone f → instrument < 12
+on-by : (row : Metal) (f : Field) (trade : Counted) → counted_in row f ≡ Some trade → Sound alone f → trade.instrument < 12
 unfolding counted_in
-on-by row (Header m marks form) instrument price lots e h = clash cc
-on-by row (PreviousClose i p) instrument price lots e h = clash cc
-on-by row (Trade time i p l) instrument price lots e h = by-test (in_window (start_in row i) time) e
+on-by row (Header m marks form) trade e h = clash cc
+on-by row (PreviousClose i p) trade e h = clash cc
+on-by row (Trade time i p l) trade e h = by-test (in_window (start_in row i) time) e
   where
-    by-test : (b : Bool) → cond b (C.Trade i p l) C.Nothing ≡ C.Trade instrument price lots → instrument < 12
-    by-test true g = let same : i ≡ instrument = cc in omega (arith, h.stamp.on.in_table)
+    by-test : (b : Bool) → cond b (Some (trade_that i p l)) None ≡ Some trade → trade.instrument < 12
+    by-test true g =
+        let whole : trade_that i p l ≡ trade = cc in
+        let same : i ≡ trade.instrument = ap (λ (t : Counted). t.instrument) whole in
+        omega (arith, h.stamp.on.in_table)
     by-test false g = clash cc
-on-by row (Quote time i sides bid offer) instrument price lots e h = clash cc
-on-by row (End count) instrument price lots e h = clash cc
+on-by row (Quote time i sides bid offer) trade e h = clash cc
+on-by row (End count) trade e h = clash cc
 
-pub counted-on : (row : Metal) (f : Field) {r : Counted} {instrument : ℕ} {price : Price} {lots : ℕ} → r ≡ counted_in row f → r ≡ C.Trade instrument price lots → Sound alone f → instrument < 12
-counted-on row f {r} {instrument} {price} {lots} e d h = on-by row f instrument price lots (sym e ∙ d) h
+pub counted-on : (row : Metal) (f : Field) {r : Option Counted} {trade : Counted} → r ≡ counted_in row f → r ≡ Some trade → Sound alone f → trade.instrument < 12
+counted-on row f {r} {trade} e d h = on-by row f trade (sym e ∙ d) h
 
 -- ---- the pass over a sheet that fields fill
 
@@ -205,25 +209,25 @@ module _ (metal : ℕ) (s : List ℕ) (at : ℕ) (ts : List Total) (o : Passing 
       pass-sound h e g = subst (Sound alone) (trade-is h e) (pass-right (total_of metal) none s at ts o l g)
 
       -- behind a field that counts as nothing
-      on_none : {n : ℕ} → n ≡ size_of tag → C.Nothing ≡ counted_of metal place.field → Passing metal s (at + n) ts
+      on_none : {n : ℕ} → n ≡ size_of tag → None ≡ counted_of metal place.field → Passing metal s (at + n) ts
       on_none e c =
           pass-next (total_of metal) none s at ts o l k e
           (kept-none (total_of metal) none (in_total metal) (total-goes metal) o.kept place.field (λ i h t. total-same metal i t place.field (counted_none metal place.field (sym c) i)))
 
-      module _ {f : Field} {c : Counted} {row : Metal} (three : tag ≡ 3) (d : f ≡ trade_of (body_at s at 3)) (w : row ≡ metal_of metal) (g : c ≡ counted_in row f) where
+      module _ {f : Field} {c : Option Counted} {row : Metal} (three : tag ≡ 3) (d : f ≡ trade_of (body_at s at 3)) (w : row ≡ metal_of metal) (g : c ≡ counted_in row f) where
         found : c ≡ counted_of metal place.field
         found = g ∙ ap (λ (r : Metal). counted_in r f) w ∙ counted-row metal f ∙ ap (counted_of metal) (sym (trade-is three d))
 
-        pub pass-trade : {instrument : ℕ} {price : Price} {lots : ℕ} {t : Total} → Filled s → c ≡ C.Trade instrument price lots → t ≡ with_trade (get_or ts instrument none) price lots → Passing metal s (at + 14) (set ts instrument t)
-        pass-trade {instrument} {price} {lots} filled h u =
+        pub pass-trade : {trade : Counted} {t : Total} → Filled s → c ≡ Some trade → t ≡ with_trade (get_or ts trade.instrument none) trade.price trade.lots → Passing metal s (at + 14) (set ts trade.instrument t)
+        pass-trade {trade} filled h u =
             let on = counted-on row f g h (pass-sound three d filled) in
-            let q = counted-one metal place.field instrument price lots (sym found ∙ h) in
+            let q = counted-one metal place.field trade (sym found ∙ h) in
             pass-next (total_of metal) none s at ts o l k (size-three three)
-            (kept-one (total_of metal) none (in_total metal) (total-goes metal) o.kept place.field instrument on
+            (kept-one (total_of metal) none (in_total metal) (total-goes metal) o.kept place.field trade.instrument on
             (λ i h t n. total-same metal i t place.field (q.other i n))
-            (u ∙ sym (total-more metal instrument (get_or ts instrument none) place.field price lots q.own)))
+            (u ∙ sym (total-more metal trade.instrument (get_or ts trade.instrument none) place.field trade.price trade.lots q.own)))
 
-        pub pass-nothing : c ≡ C.Nothing → Passing metal s (at + 14) ts
+        pub pass-nothing : c ≡ None → Passing metal s (at + 14) ts
         pass-nothing h = on_none (size-three three) (sym h ∙ found)
 
       -- a field under another tag is no trade
@@ -231,7 +235,7 @@ module _ (metal : ℕ) (s : List ℕ) (at : ℕ) (ts : List Total) (o : Passing 
       unfolding counted_of
       pass-other h e = on_none e (no-trade place.field (here-is s at place k))
         where
-          no-trade : (f : Field) → f ≡ field_of tag (body_at s at tag) → C.Nothing ≡ counted_of metal f
+          no-trade : (f : Field) → f ≡ field_of tag (body_at s at tag) → None ≡ counted_of metal f
           no-trade (Header m marks form) v = refl
           no-trade (PreviousClose instrument price) v = refl
           no-trade (Trade time instrument price lots) v = absurd (h (tag-three tag _ (sym v)))
