@@ -10,26 +10,13 @@ ghost use Rattle.sheet.specs.Fields.{fields_of};
 ghost use Rattle.sheet.specs.laws.ByInstrument.{Filled, Kept};
 ghost use Rattle.twap.specs.Span.{span_says, Accepted, Sums};
 ghost use Rattle.twap.specs.laws.Pass.{priced_of};
-ghost use Rattle.twap.specs.laws.Lines.{stamp_of, tells, cut_at, with_span, new_line, new_lines, line_with, line_of, line_sum, Fair};
+ghost use Rattle.twap.specs.laws.Lines.{stamp_of, tells, with_span, new_line, new_lines, line_with, line_of, line_sum, Fair};
 
 use field::layout::size_of;
-use field::{Field, layout};
-use indicator::{Indicator, Side, take_field};
+use field::{Field, Price, layout};
+use indicator::{Indicator, take_field};
 use market::{Metal, WINDOW, metal_of, start_in};
 use raw_reader::{previous_of, quote_of, trade_of};
-
-// A sum of cents.
-#[derive(Clone, Copy)]
-pub struct Total {
-    pub cents: i64,
-}
-
-// The sum over a window, or none where there is no reference at its first millisecond.
-#[derive(Clone, Copy)]
-pub enum Summed {
-    Missing,
-    Sum(Total),
-}
 
 // What a field is to its instrument besides its prices.
 #[derive(Clone, Copy)]
@@ -46,48 +33,39 @@ pub struct Line {
     pub state: Indicator,
     pub told: bool,
     pub since: u32,
-    pub total: Total,
+    pub total: i64,
 }
 
-fn stamp_at(instrument: u8, time: u32, refers: bool) -> Stamp
-    ensures { result ≡ record { instrument = instrument; time = time; refers = refers } }
-{
-    Stamp {
-        instrument,
-        time,
-        refers,
-    }
-}
-
-// The instrument that a field is of, 12 for a header and an end, which is none; the millisecond from which it counts, a record's time, and 0 for any
-// other field, which counts all day; and whether it gives a reference then.
-fn stamp_of(field: Field) -> Stamp
+// The stamp of a field that is of an instrument: the millisecond from which it counts is a record's time, and 0 for a previous close, which counts all
+// day. A header and an end have none.
+fn stamp_of(field: Field) -> Option<Stamp>
     ensures { result ≡ stamp_of field }
 {
     match field {
-        Field::Header {
-            metal: _,
-            marks: _,
-            form: _,
-        } => stamp_at(12, 0, false),
-        Field::PreviousClose {
+        Field::PreviousClose { instrument, .. } => Some(Stamp {
             instrument,
-            price: _,
-        } => stamp_at(instrument, 0, true),
+            time: 0,
+            refers: true,
+        }),
         Field::Trade {
             time,
             instrument,
-            price: _,
-            lots: _,
-        } => stamp_at(instrument, time, true),
+            ..
+        } => Some(Stamp {
+            instrument,
+            time,
+            refers: true,
+        }),
         Field::Quote {
             time,
             instrument,
-            sides: _,
-            bid: _,
-            offer: _,
-        } => stamp_at(instrument, time, false),
-        Field::End { count: _ } => stamp_at(12, 0, false),
+            ..
+        } => Some(Stamp {
+            instrument,
+            time,
+            refers: false,
+        }),
+        Field::Header { .. } | Field::End { .. } => None,
     }
 }
 
@@ -95,77 +73,67 @@ fn stamp_of(field: Field) -> Stamp
 fn tells_by(start: u32, stamp: Stamp) -> bool
     ensures { result ≡ tells start stamp }
 {
-    if stamp.refers {
-        return stamp.time <= start;
-    }
-    false
-}
-
-// Where a span that begins at `since` ends for a record of this time: not before it began, and not behind the window.
-fn cut_at(since: u32, until: u32, time: u32) -> u32
-    ensures { result ≡ cut_at since until time }
-{
-    if time <= since {
-        return since;
-    }
-    if until <= time {
-        return until;
-    }
-    time
+    stamp.refers && stamp.time <= start
 }
 
 // The total with a span more: so many milliseconds times a side; one that is absent counts 0.
-fn plus(total: Total, side: Side, milliseconds: u32) -> Total
-    requires { (nat_abs total.cents ≤ 300000 * 99999999) × (milliseconds ≤ 300000) }
+fn plus(total: i64, side: Option<Price>, milliseconds: u32) -> i64
+    requires { (nat_abs total ≤ 300000 * 99999999) × (milliseconds ≤ 300000) }
     ensures { result ≡ with_span total side milliseconds }
 {
     match side {
-        Side::Absent => total,
-        Side::At(price) => Total {
-            cents: total.cents + milliseconds as i64 * price.cents as i64,
-        },
+        Some(price) => total + milliseconds as i64 * price.cents as i64,
+        None => total,
     }
 }
 
-// The line of an instrument with one of its fields more.
-fn line_with(line: Line, stamp: Stamp, start: u32, field: Field) -> Line
-    requires { Fair start line × (start ≤ 60900000) × (stamp ≡ stamp_of field) }
-    ensures { result ≡ line_with stamp.instrument start line field }
-{
-    let state = line.state;
-    let next = take_field(state, stamp.instrument, field);
-    let since = line.since;
-    let to = cut_at(since, start + WINDOW, stamp.time);
-    let before = line.total;
-    let length = to - since;
-    let total = plus(before, state.value(), length);
-    let told = line.told || tells_by(start, stamp);
-    Line {
-        state: next,
-        told,
-        since: to,
-        total,
+impl Line {
+    // Before any field.
+    fn new(start: u32) -> Self
+        ensures { result ≡ new_line start }
+    {
+        Line {
+            state: Indicator::empty(),
+            told: false,
+            since: start,
+            total: 0,
+        }
+    }
+
+    // The line with one of its instrument's fields more. The open span ends at the field's time: not before it began, and not behind the window.
+    fn with(self, start: u32, stamp: Stamp, field: Field) -> Self
+        requires { Fair start self × (start ≤ 60900000) × (stamp_of field ≡ Some stamp) }
+        ensures { result ≡ line_with stamp.instrument start self field }
+    {
+        let to = stamp.time.clamp(self.since, start + WINDOW);
+        Line {
+            state: take_field(self.state, stamp.instrument, field),
+            told: self.told || tells_by(start, stamp),
+            since: to,
+            total: plus(self.total, self.state.value(), to - self.since),
+        }
+    }
+
+    // What it comes to with its last span, up to the window's end.
+    fn sum(self, start: u32) -> Option<i64>
+        requires { Fair start self × (start ≤ 60900000) }
+        ensures { span_says result ≡ line_sum start self }
+    {
+        if self.told {
+            let left = start + WINDOW - self.since;
+            Some(plus(self.total, self.state.value(), left))
+        } else {
+            None
+        }
     }
 }
 
-// Before any field.
-fn new_line(start: u32) -> Line
-    ensures { result ≡ new_line start }
-{
-    Line {
-        state: Indicator::empty(),
-        told: false,
-        since: start,
-        total: Total { cents: 0 },
-    }
-}
-
+// The twelve lines before any field.
 fn new_lines(row: Metal) -> [Line; 12]
     ensures { result ≡ new_lines row }
 {
-    let spread = new_line(row.spread);
-    let mut lines = [spread; 12];
-    lines[0] = new_line(row.anchor);
+    let mut lines = [Line::new(row.spread); 12];
+    lines[0] = Line::new(row.anchor);
     lines
 }
 
@@ -173,33 +141,26 @@ fn new_lines(row: Metal) -> [Line; 12]
 fn bytes_of(tag: u8) -> usize
     ensures { result ≡ size_of tag }
 {
-    if tag == layout::TRADE {
-        return 14;
+    match tag {
+        layout::TRADE => 14,
+        layout::QUOTE => 17,
+        _ => size_of(tag),
     }
-    if tag == layout::QUOTE {
-        return 17;
-    }
-    size_of(tag)
 }
 
-// The field of an instrument whose head and body are known to stand at a place: a trade, a quote or a previous close; an end for any other field, of
-// which nothing is kept.
-fn field_here(sheet: &[u8], at: usize, tag: u8) -> Field
+// The field of an instrument whose head and body are known to stand at a place: a trade, a quote or a previous close; none for any other, of which
+// nothing is kept.
+fn field_here(sheet: &[u8], at: usize, tag: u8) -> Option<Field>
     requires { Headed sheet.now at tag }
     ensures { result ≡ priced_of tag (body_at sheet.now at tag) }
 {
-    let start = at + 3;
-    let next = at + bytes_of(tag);
-    if tag == layout::TRADE {
-        return trade_of(&sheet[start..next]);
+    let body = &sheet[at + 3..at + bytes_of(tag)];
+    match tag {
+        layout::TRADE => Some(trade_of(body)),
+        layout::QUOTE => Some(quote_of(body)),
+        layout::PREVIOUS_CLOSE => Some(previous_of(body)),
+        _ => None,
     }
-    if tag == layout::QUOTE {
-        return quote_of(&sheet[start..next]);
-    }
-    if tag == layout::PREVIOUS_CLOSE {
-        return previous_of(&sheet[start..next]);
-    }
-    Field::End { count: 0 }
 }
 
 // The twelve lines of a sheet that fields fill to its end.
@@ -212,45 +173,28 @@ fn lines_of(sheet: &[u8], metal: u8) -> [Line; 12]
     let mut at = 0;
     while at < sheet.len() {
         let tag = sheet[at];
-        let field = field_here(sheet, at, tag);
-        let stamp = stamp_of(field);
-        let instrument = stamp.instrument;
-        let i = instrument as usize;
-        if i < 12 {
-            lines[i] = line_with(lines[i], stamp, start_in(row, instrument), field);
+        if let Some(field) = field_here(sheet, at, tag)
+            && let Some(stamp) = stamp_of(field)
+        {
+            let i = stamp.instrument as usize;
+            lines[i] = lines[i].with(start_in(row, stamp.instrument), stamp, field);
         }
-        at = at + bytes_of(tag);
+        at += bytes_of(tag);
     }
     lines
 }
 
-// What a line comes to with its last span, up to the window's end.
-fn sum_of(line: Line, start: u32) -> Summed
-    requires { Fair start line × (start ≤ 60900000) }
-    ensures { span_says result ≡ line_sum start line }
-{
-    if line.told {
-        let state = line.state;
-        let before = line.total;
-        let left = start + WINDOW - line.since;
-        return Summed::Sum(plus(before, state.value(), left));
-    }
-    Summed::Missing
-}
-
-// The sum of each instrument's indicator, 0 to 11, over its window, in an accepted sheet.
-pub fn sums_of(sheet: &[u8], metal: u8) -> [Summed; 12]
+// The sum of each instrument's indicator, 0 to 11, over its window, in an accepted sheet; none where there is no reference at its first millisecond.
+pub fn sums_of(sheet: &[u8], metal: u8) -> [Option<i64>; 12]
     requires { Accepted sheet.now }
     ensures { Sums metal (fields_of sheet.now) result }
 {
     let row = metal_of(metal);
     let lines = lines_of(sheet, metal);
-    let mut sums = [Summed::Missing; 12];
-    let mut i: u8 = 0;
-    while i < 12 {
+    let mut sums = [None; 12];
+    for i in 0..12u8 {
         let k = i as usize;
-        sums[k] = sum_of(lines[k], start_in(row, i));
-        i += 1;
+        sums[k] = lines[k].sum(start_in(row, i));
     }
     sums
 }

@@ -1,69 +1,42 @@
 -- `twap::lines_of` meets its contract: at each place the lines are those of the fields before it. Assumes nothing.
-use mathlib.Core.Path.{refl}
-use native.Mathlib.Omega.{arith}
+use mathlib.Core.Path.{refl, sym, ◌∙◌}
 use borrow.Author.Rules.{rules}
-use Rattle.twap.specs.laws.Pass.{pass-start, start_small, pass-done, pass-fair, pass-headed, pass-inside, pass_fits, pass-own, pass-none}
+use Rattle.twap.specs.laws.Pass.{pass-start, start_small, pass-done, pass-fair, pass-headed, pass_fits, pass-on, pass-own, pass-unstamped, pass-unread}
 use Rattle.twap.proofs.lines_of.Goals as goal
-use Rattle.twap.proofs.lines_of.Goals.{then-i-lt12, else-i-lt12}
-
-ruleset passing = (pass-start, start_small, pass-done, pass-fair, pass-headed, pass-inside, pass_fits, rules)
-
-pub metal_of-row-requires : goal.metal_of-row-requires
-metal_of-row-requires c = search passing
-
-pub new_lines-lines-requires : goal.new_lines-lines-requires
-new_lines-lines-requires c = search passing
+use Rattle.twap.proofs.lines_of.Goals.{in-Some+in-Some-stamp_of, in_default, in_default-via-in-None-1, in_default-via-in-Some+in-None-1}
 
 pub loop-at-init : goal.loop-at-init
-loop-at-init c = search passing
+loop-at-init c = search (pass-start, rules)
 
-pub bounds-sheet-at : goal.bounds-sheet-at
-bounds-sheet-at c = search passing
-
-pub field_here-field-requires : goal.field_here-field-requires
-field_here-field-requires c = search passing
-
-pub stamp_of-stamp-requires : goal.stamp_of-stamp-requires
-stamp_of-stamp-requires c = search passing
-
-pub overflow_cast-i : goal.overflow_cast-i
-overflow_cast-i c = search passing
-
-pub offset_bounds-lines-i : goal.offset_bounds-lines-i
-offset_bounds-lines-i c = search passing
+pub field_here-requires : goal.field_here-requires
+field_here-requires c = search (pass-headed, rules)
 
 pub bounds-lines-i : goal.bounds-lines-i
-bounds-lines-i c = search passing
+bounds-lines-i c = pass-on _ _ _ _ c.loop-at.invariant c.loop-at-test.true refl c.field_here.ensures c.in-Some.is c.requires.0 (sym c.stamp_of.ensures ∙ c.in-Some-stamp_of.is)
 
-pub start_in-requires : goal.start_in-requires
-start_in-requires c = search passing
+pub with-requires : goal.with-requires
+with-requires c =
+    let o = c.loop-at.invariant in
+    let stamp = sym c.stamp_of.ensures ∙ c.in-Some-stamp_of.is in
+    let on = pass-on _ _ _ _ o c.loop-at-test.true refl c.field_here.ensures c.in-Some.is c.requires.0 stamp in
+    (pass-fair _ _ _ _ o _ c.requires.0 on c.metal_of-row.ensures c.start_in.ensures, start_small _ _ c.metal_of-row.ensures c.start_in.ensures, stamp)
 
-pub line_with-requires : goal.line_with-requires
-line_with-requires c = search passing
-
-pub offset_bounds-lines-i-then-i-lt12 : goal.offset_bounds-lines-i-then-i-lt12
-offset_bounds-lines-i-then-i-lt12 c = search passing
-
-pub bounds-lines-i-then-i-lt12 : goal.bounds-lines-i-then-i-lt12
-bounds-lines-i-then-i-lt12 c = search passing
-
-pub bytes_of-at-requires : goal.bytes_of-at-requires
-bytes_of-at-requires c = search passing
+pub bounds-lines-i-in-loop-at : goal.bounds-lines-i-in-loop-at
+bounds-lines-i-in-loop-at c = pass-on _ _ _ _ c.loop-at.invariant c.loop-at-test.true refl c.field_here.ensures c.in-Some.is c.requires.0 (sym c.stamp_of.ensures ∙ c.in-Some-stamp_of.is)
 
 pub overflow_add-at : goal.overflow_add-at
-overflow_add-at c = search passing
-
-pub loop-at-smaller : goal.loop-at-smaller
-loop-at-smaller c = search passing
+overflow_add-at c = search (pass_fits, rules)
 
 pub loop-at-preserved : goal.loop-at-preserved
 loop-at-preserved c =
     let o = c.loop-at.invariant in
-    let row = c.metal_of-row.ensures in
-    elim c.if-i-lt12.branch [
-      | then-i-lt12 w ↦ rw w.lines-is (pass-own _ _ _ _ o (omega arith) refl c.field_here-field.ensures c.stamp_of-stamp.ensures c.bytes_of-at.ensures w.if-i-lt12.true row w.start_in.ensures w.line_with.ensures)
-      | else-i-lt12 w ↦ rw w.lines-is (pass-none _ _ _ _ o (omega arith) refl c.field_here-field.ensures c.stamp_of-stamp.ensures c.bytes_of-at.ensures w.if-i-lt12.false)
+    elim c.match-field_here.branch [
+      | in-Some+in-Some-stamp_of w ↦ rw w.lines-is (pass-own _ _ _ _ o c.loop-at-test.true refl c.field_here.ensures w.in-Some.is c.requires.0 (sym w.stamp_of.ensures ∙ w.in-Some-stamp_of.is) c.bytes_of-at.ensures c.metal_of-row.ensures w.start_in.ensures w.with.ensures)
+      | in_default w ↦ rw w.lines-is (elim w.in_default.branch [
+        | in_default-via-in-None-1 v ↦ search (pass-unread, rules)
+        | in_default-via-in-Some+in-None-1 v ↦ search (pass-unstamped, rules)
+      ])
     ]
 
 pub returns : goal.returns
-returns c = search passing
+returns c = search (pass-done, rules)

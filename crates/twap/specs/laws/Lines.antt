@@ -5,7 +5,7 @@
 --     line-is               what it comes to is the sum over the window's milliseconds, or missing
 --     Fair, fair-line       the sizes that keep every total within 64 bits
 -- Assumes nothing.
-use Rattle.std.specs.Prelude.{ℕ, ◌+◌, ◌-◌, ◌*◌, ◌≤◌, ◌<◌, ◌≡◌, Bool, leb, eqb, ℤ, pos, nat_abs, ◌+ℤ◌, ◌*ℤ◌, replicate, Option, None}
+use Rattle.std.specs.Prelude.{ℕ, ◌+◌, ◌-◌, ◌*◌, ◌≤◌, ◌<◌, ◌≡◌, Bool, leb, eqb, ℤ, pos, nat_abs, ◌+ℤ◌, ◌*ℤ◌, replicate, max, min, Option, Some, None}
 use Rattle.std.proofs.Common.{zero-le, sym, ◌∙◌, le_refl, arith}
 use Rattle.std.proofs.Math.Path.{refl, ap}
 use Rattle.std.proofs.Math.Bool.{true, false, cond}
@@ -15,8 +15,10 @@ use Rattle.std.proofs.Math.Decide.{dec_lt}
 use borrow.Author.Tests.{le-leb, lt-leb, ne_eqb, eq-eqb}
 use Rattle.std.proofs.Math.IntN.{+ℤ_idl, +ℤ_idr, +ℤ_assoc, zero-*ℤ, *ℤ-zero}
 use Rattle.cents.specs.laws.Whole.{size-+, size-*}
+use Rattle.field.specs.declared.Price.{Price}
 use Rattle.field.specs.declared.Field.{Field}
 use Rattle.field.specs.declared.Field.TheVariants.{Header, PreviousClose, Trade, Quote, End}
+use Rattle.field.specs.laws.Field.{clash}
 use Rattle.field.specs.Judging.{alone}
 use Rattle.field.proofs.Sound.{Sound}
 use Rattle.market.specs.declared.Metal.{Metal}
@@ -28,7 +30,6 @@ use Rattle.indicator.specs.Indicator.{cents_of, empty, value_of, taken, stamp}
 use Rattle.indicator.specs.Spans.{PricedSpan, is_of, spans_from, spans_of, products_of}
 use Rattle.indicator.specs.laws.Indicator.{Rising, told_by}
 use Rattle.indicator.proofs.Spans.{Meets, other, early, behind, cut, meets, spans-other, spans-early, spans-behind, spans-cut, by-spans}
-use Rattle.twap.specs.declared.Total.{Total}
 use Rattle.twap.specs.declared.Stamp.{Stamp}
 use Rattle.twap.specs.declared.Line.{Line}
 use Rattle.twap.specs.Span.{Span, missing, sum, span_of}
@@ -37,39 +38,57 @@ use Rattle.twap.specs.laws.Sizes.{SmallState, small-empty, small-taken, small-va
 
 -- ---- what a field does to a line
 
--- the instrument that a field is of, 12 being none, the millisecond from which it counts, and whether it gives a reference then
-abbrev pub stamp_of : Field → Stamp
-stamp_of (Header metal marks form) = record { instrument = 12; time = 0; refers = false }
-stamp_of (PreviousClose instrument price) = record { instrument = instrument; time = 0; refers = true }
-stamp_of (Trade time instrument price lots) = record { instrument = instrument; time = time; refers = true }
-stamp_of (Quote time instrument sides bid offer) = record { instrument = instrument; time = time; refers = false }
-stamp_of (End count) = record { instrument = 12; time = 0; refers = false }
+-- the instrument that a field is of, the millisecond from which it counts, and whether it gives a reference then; none of a header and an end
+abbrev pub stamp_of : Field → Option Stamp
+stamp_of (Header metal marks form) = None
+stamp_of (PreviousClose instrument price) = Some (record { instrument = instrument; time = 0; refers = true })
+stamp_of (Trade time instrument price lots) = Some (record { instrument = instrument; time = time; refers = true })
+stamp_of (Quote time instrument sides bid offer) = Some (record { instrument = instrument; time = time; refers = false })
+stamp_of (End count) = None
+
+-- its instrument; 12, which is none, where it has no stamp
+abbrev pub instrument_in : Option Stamp → ℕ
+instrument_in None = 12
+instrument_in (Some x) = x.instrument
 
 abbrev pub instrument_of : Field → ℕ
-instrument_of f = (stamp_of f).instrument
+instrument_of f = instrument_in (stamp_of f)
 
-pub stamp-is : (f : Field) → (stamp_of f).time ≡ stamp f
-stamp-is (Header metal marks form) = refl
-stamp-is (PreviousClose instrument price) = refl
-stamp-is (Trade time instrument price lots) = refl
-stamp-is (Quote time instrument sides bid offer) = refl
-stamp-is (End count) = refl
+pub stamp-is : (f : Field) {x : Stamp} → stamp_of f ≡ Some x → x.time ≡ stamp f
+stamp-is (Header metal marks form) e = clash cc
+stamp-is (PreviousClose instrument price) {x} e = let same : record { instrument = instrument; time = 0; refers = true } ≡ x = cc in sym (ap (λ (y : Stamp). y.time) same)
+stamp-is (Trade time instrument price lots) {x} e = let same : record { instrument = instrument; time = time; refers = true } ≡ x = cc in sym (ap (λ (y : Stamp). y.time) same)
+stamp-is (Quote time instrument sides bid offer) {x} e = let same : record { instrument = instrument; time = time; refers = false } ≡ x = cc in sym (ap (λ (y : Stamp). y.time) same)
+stamp-is (End count) e = clash cc
+
+-- a field in its ranges is on an instrument of the twelve, where it is on one
+pub stamp-on : (f : Field) {x : Stamp} → stamp_of f ≡ Some x → Sound alone f → x.instrument < 12
+stamp-on (Header metal marks form) e h = clash cc
+stamp-on (PreviousClose instrument price) e h = omega (arith, h.0.in_table, ap instrument_in e)
+stamp-on (Trade time instrument price lots) e h = omega (arith, h.stamp.on.in_table, ap instrument_in e)
+stamp-on (Quote time instrument sides bid offer) e h = omega (arith, h.stamp.on.in_table, ap instrument_in e)
+stamp-on (End count) e h = clash cc
 
 -- a previous close gives a reference, and so does a trade by the start
 abbrev pub tells : ℕ → Stamp → Bool
 tells start x = cond x.refers (leb x.time start) false
+
+-- so does a field with such a stamp
+abbrev pub field_tells : ℕ → Option Stamp → Bool
+field_tells start None = false
+field_tells start (Some x) = tells start x
 
 -- where the open span ends for a record of a time: not before it began, and not behind the window
 unfoldable pub cut_at : ℕ → ℕ → ℕ → ℕ
 cut_at since until time = cond (leb time since) since (cond (leb until time) until time)
 
 -- a total with a span more
-abbrev pub with_span : Total → Option Price → ℕ → Total
-with_span total side n = record { cents = total.cents +ℤ pos n *ℤ cents_of side }
+abbrev pub with_span : ℤ → Option Price → ℕ → ℤ
+with_span total side n = total +ℤ pos n *ℤ cents_of side
 
 -- a side that is absent counts 0
-pub nothing-absent : (total : Total) (n : ℕ) → total ≡ with_span total None n
-nothing-absent total n = ap (λ (z : ℤ). record { cents = z }) (sym (ap (λ (z : ℤ). total.cents +ℤ z) (*ℤ-zero (pos n)) ∙ +ℤ_idr total.cents))
+pub nothing-absent : (total : ℤ) (n : ℕ) → total ≡ with_span total None n
+nothing-absent total n = sym (ap (λ (z : ℤ). total +ℤ z) (*ℤ-zero (pos n)) ∙ +ℤ_idr total)
 
 -- the line with a field of its instrument, whose window starts at start
 unfoldable pub line_with : ℕ → ℕ → Line → Field → Line
@@ -77,7 +96,7 @@ line_with i start l f =
     let to = cut_at l.since (start + window_length) (stamp f) in
     record {
       state = taken i l.state f;
-      told = cond l.told true (tells start (stamp_of f));
+      told = cond l.told true (field_tells start (stamp_of f));
       since = to;
       total = with_span l.total (value_of l.state) (to - l.since);
     }
@@ -93,7 +112,7 @@ line_from i start l (f ∷ fs) = line_from i start (line_after i start l f) fs
 
 -- before any field; and of a sheet's fields
 abbrev pub new_line : ℕ → Line
-new_line start = record { state = empty; told = false; since = start; total = record { cents = pos 0 } }
+new_line start = record { state = empty; told = false; since = start; total = pos 0 }
 
 abbrev pub new_lines : Metal → List Line
 new_lines row = new_line row.anchor ∷ replicate 11 (new_line row.spread)
@@ -103,7 +122,7 @@ line_of metal i fs = line_from i (start_of metal i) (new_line (start_of metal i)
 
 -- the cents of the total with the last span, up to the window's end
 abbrev closing : ℕ → Line → ℤ
-closing start l = (with_span l.total (value_of l.state) (start + window_length - l.since)).cents
+closing start l = with_span l.total (value_of l.state) (start + window_length - l.since)
 
 -- what a line comes to
 unfoldable pub line_sum : ℕ → Line → Span
@@ -156,6 +175,18 @@ module _ (since until time : ℕ) where
   unfolding cut_at
   cut_inside h k = rw (lt-leb time since h, lt-leb until time k) refl
 
+-- as the code cuts it, where the span begins by the window's end
+pub cut-clamp : (since until time : ℕ) → since ≤ until → max since (min time until) ≡ cut_at since until time
+cut-clamp since until time h = by-time (dec_lt since time)
+  where
+    by_end : since < time → Dec (time < until) → max since (min time until) ≡ cut_at since until time
+    by_end k (yes l) = let same : max since (min time until) ≡ time = omega arith in same ∙ sym (cut_inside since until time k l)
+    by_end k (no l) = let same : max since (min time until) ≡ until = omega arith in same ∙ sym (cut-behind since until time k (omega arith))
+
+    by-time : Dec (since < time) → max since (min time until) ≡ cut_at since until time
+    by-time (yes k) = by_end k (dec_lt time until)
+    by-time (no k) = let same : max since (min time until) ≡ since = omega arith in same ∙ sym (cut-early since until time (omega arith))
+
 -- no milliseconds add nothing
 add_nothing : (z v : ℤ) (n : ℕ) → n ≡ 0 → z +ℤ pos n *ℤ v ≡ z
 add_nothing z v n e = rw e (ap (λ (x : ℤ). z +ℤ x) (zero-*ℤ v) ∙ +ℤ_idr z)
@@ -164,7 +195,7 @@ add_nothing z v n e = rw e (ap (λ (x : ℤ). z +ℤ x) (zero-*ℤ v) ∙ +ℤ_i
 abbrev moved : ℕ → ℕ → Line → Field → ℕ → Line
 moved i start l f to = record {
   state = taken i l.state f;
-  told = cond l.told true (tells start (stamp_of f));
+  told = cond l.told true (field_tells start (stamp_of f));
   since = to;
   total = with_span l.total (value_of l.state) (to - l.since);
 }
@@ -187,27 +218,27 @@ module _ (i start : ℕ) where
   to_end l f e (yes h) = cut-behind l.since until (stamp f) h (omega (arith, e))
   to_end l f e (no h) = cut-early l.since until (stamp f) (omega arith) ∙ e
 
-  ended_by : (l : Line) (f : Field) (fs : List Field) → l.since ≡ until → ((x : Line) → x.since ≡ until → closing start (line_from i start x fs) ≡ x.total.cents)
-      → (b : Bool) → is_of i f ≡ b → closing start (line_from i start (line_after i start l f) fs) ≡ l.total.cents
+  ended_by : (l : Line) (f : Field) (fs : List Field) → l.since ≡ until → ((x : Line) → x.since ≡ until → closing start (line_from i start x fs) ≡ x.total)
+      → (b : Bool) → is_of i f ≡ b → closing start (line_from i start (line_after i start l f) fs) ≡ l.total
   ended_by l f fs e next true d =
       ap (λ (x : Line). closing start (line_from i start x fs)) (after-own l f d (to_end l f e (dec_lt l.since (stamp f))))
       ∙ next (moved i start l f until) refl
-      ∙ add_nothing l.total.cents (cents_of (value_of l.state)) (until - l.since) (omega (arith, e))
+      ∙ add_nothing l.total (cents_of (value_of l.state)) (until - l.since) (omega (arith, e))
   ended_by l f fs e next false d = ap (λ (x : Line). closing start (line_from i start x fs)) (after-other l f d) ∙ next l e
 
-  ended : (fs : List Field) (l : Line) → l.since ≡ until → closing start (line_from i start l fs) ≡ l.total.cents
+  ended : (fs : List Field) (l : Line) → l.since ≡ until → closing start (line_from i start l fs) ≡ l.total
   unfolding line_from
-  ended [] l e = add_nothing l.total.cents (cents_of (value_of l.state)) (until - l.since) (omega (arith, e))
+  ended [] l e = add_nothing l.total (cents_of (value_of l.state)) (until - l.since) (omega (arith, e))
   ended (f ∷ fs) l e = ended_by l f fs e (ended fs) (is_of i f) refl
 
   -- what a line comes to is its total, and price times length over the spans that are left
   abbrev Comes : List Field → Type 0
-  Comes fs = (l : Line) → l.since ≤ until → closing start (line_from i start l fs) ≡ l.total.cents +ℤ products_of (spans_from i until l.since l.state fs)
+  Comes fs = (l : Line) → l.since ≤ until → closing start (line_from i start l fs) ≡ l.total +ℤ products_of (spans_from i until l.since l.state fs)
 
   module _ (f : Field) (fs : List Field) (next : Comes fs) (l : Line) (h : l.since ≤ until) where
     -- the total before, and the indicator
     abbrev z : ℤ
-    z = l.total.cents
+    z = l.total
 
     abbrev v : ℤ
     v = cents_of (value_of l.state)
@@ -239,7 +270,7 @@ module _ (i start : ℕ) where
 
   line-products : (fs : List Field) → Comes fs
   unfolding line_from spans_from products_of
-  line-products [] l h = ap (λ (z : ℤ). l.total.cents +ℤ z) (sym (+ℤ_idr (pos (until - l.since) *ℤ cents_of (value_of l.state))))
+  line-products [] l h = ap (λ (z : ℤ). l.total +ℤ z) (sym (+ℤ_idr (pos (until - l.since) *ℤ cents_of (value_of l.state))))
   line-products (f ∷ fs) l h = one_more f fs (line-products fs) l h (meets i until l.since f)
 
   -- ---- the reference
@@ -254,9 +285,9 @@ module _ (i start : ℕ) where
 
   -- a field of the instrument, or of another
   told-by : (b : Bool) (l : Line) (f : Field) (fs : List Field) → ((x : Line) → (line_from i start x fs).told ≡ cond x.told true (told_by i start fs))
-      → (line_from i start (cond b (line_with i start l f) l) fs).told ≡ cond l.told true (cond b (cond (tells start (stamp_of f)) true (told_by i start fs)) (told_by i start fs))
+      → (line_from i start (cond b (line_with i start l f) l) fs).told ≡ cond l.told true (cond b (cond (field_tells start (stamp_of f)) true (told_by i start fs)) (told_by i start fs))
   unfolding line_with
-  told-by true l f fs next = next (line_with i start l f) ∙ or-or l.told (tells start (stamp_of f)) (told_by i start fs)
+  told-by true l f fs next = next (line_with i start l f) ∙ or-or l.told (field_tells start (stamp_of f)) (told_by i start fs)
   told-by false l f fs next = next l
 
   either : (b : Bool) (a c : Bool) → cond a true (cond b c c) ≡ cond a true c
@@ -289,7 +320,7 @@ pub record Fair (start : ℕ) (l : Line) : Type 0 where
   pub small : SmallState l.state
   pub from : start ≤ l.since
   pub to : l.since ≤ start + 300000
-  pub size : nat_abs l.total.cents ≤ (l.since - start) * 99999999
+  pub size : nat_abs l.total ≤ (l.since - start) * 99999999
 
 pub fair-new : (start : ℕ) → Fair start (new_line start)
 fair-new start = record { small = small-empty; from = le_refl start; to = omega arith; size = omega arith }
@@ -321,7 +352,7 @@ module _ (i start : ℕ) where
         small = small-taken i l.state f o.small s;
         from = omega (arith, o.from, c.from);
         to = omega (arith, c.most, window-length);
-        size = omega (arith, o.size, o.from, c.from, size-+ l.total.cents (pos (to - l.since) *ℤ v), size-* (pos (to - l.since)) v, mul-le-mul (le_refl (to - l.since)) (small-value l.state o.small));
+        size = omega (arith, o.size, o.from, c.from, size-+ l.total (pos (to - l.since) *ℤ v), size-* (pos (to - l.since)) v, mul-le-mul (le_refl (to - l.since)) (small-value l.state o.small));
       }
 
   fair-after : (l : Line) (f : Field) → Fair start l → Sound alone f → Fair start (line_after i start l f)
@@ -345,7 +376,7 @@ fair-line metal i fs s = fair-from i (start_of metal i) (new_line (start_of meta
 
 module _ (start : ℕ) (l : Line) (o : Fair start l) where
   -- the total is far from the limits of its type
-  pub fair-total : nat_abs l.total.cents ≤ 29999999700000
+  pub fair-total : nat_abs l.total ≤ 29999999700000
   fair-total = omega (arith, o.size, o.from, o.to)
 
   -- where the span is cut
@@ -360,13 +391,13 @@ pub told-now : {a b x : Bool} → a ≡ false → x ≡ b → x ≡ cond a true 
 told-now e f = rw (e, f) refl
 
 -- the line as the code puts it together
-pub line-built : (i start : ℕ) (l : Line) (f : Field) {next : Indicator} {x : Stamp} {to : ℕ} {v : Option Price} {total : Total} {told : Bool} → x ≡ stamp_of f → next ≡ taken i l.state f → to ≡ cut_at l.since (start + 300000) x.time
+pub line-built : (i start : ℕ) (l : Line) (f : Field) {next : Indicator} {x : Stamp} {to : ℕ} {v : Option Price} {total : ℤ} {told : Bool} → stamp_of f ≡ Some x → next ≡ taken i l.state f → to ≡ cut_at l.since (start + 300000) x.time
     → v ≡ value_of l.state → total ≡ with_span l.total v (to - l.since) → told ≡ cond l.told true (tells start x) → ◌≡◌ {A = Line} (record { state = next; told = told; since = to; total = total }) (line_with i start l f)
 unfolding line_with
-line-built i start l f e d c g h k = rw (d, k, h, g, c, e, stamp-is f, window-length) refl
+line-built i start l f e d c g h k = rw (d, k, h, g, c, e, stamp-is f e, window-length) refl
 
 -- what it comes to, as the code tells it
-pub sum_told : (start : ℕ) (l : Line) {v : Option Price} {total : Total} → l.told ≡ true → v ≡ value_of l.state → total ≡ with_span l.total v (start + 300000 - l.since) → sum total.cents ≡ line_sum start l
+pub sum_told : (start : ℕ) (l : Line) {v : Option Price} {total : ℤ} → l.told ≡ true → v ≡ value_of l.state → total ≡ with_span l.total v (start + 300000 - l.since) → sum total ≡ line_sum start l
 unfolding line_sum
 sum_told start l e g h = rw (e, h, g, window-length) refl
 

@@ -6,7 +6,7 @@
 --     Summing, sum-..      the loop over the twelve lines
 --     accepted-cover, accepted-by-spans     the spans of an accepted sheet
 -- Assumes nothing.
-use Rattle.std.specs.Prelude.{ℕ, zero, suc, ◌+◌, ◌≤◌, ◌<◌, ◌≡◌, Bool, cond, List, [], ◌∷◌, eqb, length, get_or, set}
+use Rattle.std.specs.Prelude.{ℕ, zero, suc, ◌+◌, ◌≤◌, ◌<◌, ◌≡◌, Bool, cond, List, [], ◌∷◌, eqb, length, get_or, set, ℤ, Option, Some, None}
 use Rattle.std.proofs.Math.Path.{refl, sym, subst⁻¹}
 use Rattle.std.proofs.Common.{ap, subst, ◌∙◌, arith, length-set, get_or-set_same, get_or-set_other, Fits}
 use Rattle.std.proofs.Math.Bool.{true, false}
@@ -19,7 +19,7 @@ use Rattle.field.specs.declared.Field.{Field}
 use Rattle.field.specs.declared.Field.TheVariants.{Header, PreviousClose, Trade, Quote, End}
 use Rattle.field.specs.Layout.{tag_of, size_of, header_of, previous_of, trade_of, quote_of, end_of, long_header_of, field_of}
 use Rattle.field.specs.Reading.{body_at}
-use Rattle.field.specs.laws.Field.{Headed}
+use Rattle.field.specs.laws.Field.{clash, Headed}
 use Rattle.admit.specs.laws.Admitting.{time_from, Later}
 use Rattle.market.specs.declared.Metal.{Metal}
 use Rattle.market.specs.Market.{metal_of, start_of, window_length}
@@ -28,7 +28,7 @@ use Rattle.market.specs.laws.Rules.{start-early}
 use Rattle.sheet.specs.Fields.{fields_of, Each}
 use Rattle.sheet.specs.laws.Accepted.{Without, Closes, accepted-rises, accepted-header, accepted-closes, accepted-small, accepted-sound}
 use Rattle.sheet.specs.laws.Accepted as times
-use Rattle.sheet.specs.laws.ByInstrument.{Filled, accepted-filled, Here, here-headed, here-inside, here-is, Kept, kept-none, kept-one, pass-first, pass-last, pass-sounds, pass-here, pass-next}
+use Rattle.sheet.specs.laws.ByInstrument.{Filled, accepted-filled, Here, here-headed, here-inside, here-is, Kept, kept-none, kept-one, pass-first, pass-last, pass-sounds, pass-here, pass-right, pass-next}
 use Rattle.sheet.specs.laws.ByInstrument as pass
 use Rattle.indicator.specs.Indicator.{cents_at, twap_sum}
 use Rattle.indicator.specs.Spans.{spans_of, products_of}
@@ -36,10 +36,8 @@ use Rattle.indicator.specs.laws.Indicator.{Rising}
 use Rattle.indicator.proofs.Spans.{Covers, spans-cover, by-spans}
 use Rattle.twap.specs.declared.Stamp.{Stamp}
 use Rattle.twap.specs.declared.Line.{Line}
-use Rattle.twap.specs.declared.Summed.{Summed}
-use Rattle.twap.specs.declared.Summed.TheVariants as S
 use Rattle.twap.specs.Span.{Accepted, span_says, span_of, Sums}
-use Rattle.twap.specs.laws.Lines.{stamp_of, instrument_of, line_with, new_line, new_lines, line_from, line_of, line_step, line_sum, line-goes, step_other, step-own, line-is, Fair, fair-line}
+use Rattle.twap.specs.laws.Lines.{stamp_of, stamp-on, instrument_in, instrument_of, line_with, new_line, new_lines, line_from, line_of, line_step, line_sum, line-goes, step_other, step-own, line-is, Fair, fair-line}
 
 -- ---- the fields of an accepted sheet rise
 
@@ -89,14 +87,14 @@ new-at metal (suc i) h = get_or-replicate 11 i (new_line (metal_of metal).spread
 
 -- ---- the field as the pass reads it
 
--- a trade, a quote or a previous close, by its tag; an end for any other, of which nothing is kept
-unfoldable pub priced_of : ℕ → List ℕ → Field
-priced_of tag b = cond (eqb tag 3) (trade_of b) (cond (eqb tag 4) (quote_of b) (cond (eqb tag 2) (previous_of b) (End 0)))
+-- a trade, a quote or a previous close, by its tag; none for any other, of which nothing is kept
+unfoldable pub priced_of : ℕ → List ℕ → Option Field
+priced_of tag b = cond (eqb tag 3) (Some (trade_of b)) (cond (eqb tag 4) (Some (quote_of b)) (cond (eqb tag 2) (Some (previous_of b)) None))
 
--- it is the field that stands there, or neither is of an instrument
-pub data Priced (f g : Field) : Type 0 where
-  same : f ≡ g → Priced f g
-  none : instrument_of f ≡ 12 → instrument_of g ≡ 12 → Priced f g
+-- it is the field that stands there, or none, and that is of no instrument
+pub data Priced (f : Option Field) (g : Field) : Type 0 where
+  same : f ≡ Some g → Priced f g
+  none : f ≡ None → instrument_of g ≡ 12 → Priced f g
 
 module _ (tag : ℕ) (b : List ℕ) where
   field-by : (t : ℕ) → tag ≡ t → field_of t b ≡ field_of tag b
@@ -112,19 +110,19 @@ module _ (tag : ℕ) (b : List ℕ) where
   unfolding field_of
   tag-other e f g = rw (e, f, g) (other_none (eqb tag 1) (eqb tag 5))
 
-  by_two : (x : Bool) → eqb tag 2 ≡ x → eqb tag 3 ≡ false → eqb tag 4 ≡ false → Priced (cond x (previous_of b) (End 0)) (field_of tag b)
+  by_two : (x : Bool) → eqb tag 2 ≡ x → eqb tag 3 ≡ false → eqb tag 4 ≡ false → Priced (cond x (Some (previous_of b)) None) (field_of tag b)
   unfolding field_of
-  by_two true e f g = same (field-by 2 (eqb-true tag 2 e))
+  by_two true e f g = same (ap Some (field-by 2 (eqb-true tag 2 e)))
   by_two false e f g = none refl (tag-other e f g)
 
-  by-four : (x : Bool) → eqb tag 4 ≡ x → eqb tag 3 ≡ false → Priced (cond x (quote_of b) (cond (eqb tag 2) (previous_of b) (End 0))) (field_of tag b)
+  by-four : (x : Bool) → eqb tag 4 ≡ x → eqb tag 3 ≡ false → Priced (cond x (Some (quote_of b)) (cond (eqb tag 2) (Some (previous_of b)) None)) (field_of tag b)
   unfolding field_of
-  by-four true e f = same (field-by 4 (eqb-true tag 4 e))
+  by-four true e f = same (ap Some (field-by 4 (eqb-true tag 4 e)))
   by-four false e f = by_two (eqb tag 2) refl f e
 
-  by_three : (x : Bool) → eqb tag 3 ≡ x → Priced (cond x (trade_of b) (cond (eqb tag 4) (quote_of b) (cond (eqb tag 2) (previous_of b) (End 0)))) (field_of tag b)
+  by_three : (x : Bool) → eqb tag 3 ≡ x → Priced (cond x (Some (trade_of b)) (cond (eqb tag 4) (Some (quote_of b)) (cond (eqb tag 2) (Some (previous_of b)) None))) (field_of tag b)
   unfolding field_of
-  by_three true e = same (field-by 3 (eqb-true tag 3 e))
+  by_three true e = same (ap Some (field-by 3 (eqb-true tag 3 e)))
   by_three false e = by-four (eqb tag 4) refl e
 
   priced : Priced (priced_of tag b) (field_of tag b)
@@ -132,19 +130,19 @@ module _ (tag : ℕ) (b : List ℕ) where
   priced = by_three (eqb tag 3) refl
 
   -- as the code tests the tag
-  pub priced-three : tag ≡ 3 → trade_of b ≡ priced_of tag b
+  pub priced-three : tag ≡ 3 → Some (trade_of b) ≡ priced_of tag b
   unfolding priced_of
   priced-three e = rw e refl
 
-  pub priced-four : tag ≡ 4 → quote_of b ≡ priced_of tag b
+  pub priced-four : tag ≡ 4 → Some (quote_of b) ≡ priced_of tag b
   unfolding priced_of
   priced-four e = rw e refl
 
-  pub priced-two : tag ≡ 2 → previous_of b ≡ priced_of tag b
+  pub priced-two : tag ≡ 2 → Some (previous_of b) ≡ priced_of tag b
   unfolding priced_of
   priced-two e = rw e refl
 
-  pub priced-none : (tag ≡ 3 → ⊥) → (tag ≡ 4 → ⊥) → (tag ≡ 2 → ⊥) → End 0 ≡ priced_of tag b
+  pub priced-none : (tag ≡ 3 → ⊥) → (tag ≡ 4 → ⊥) → (tag ≡ 2 → ⊥) → None ≡ priced_of tag b
   unfolding priced_of
   priced-none e f g = sym (rw (ne_eqb tag 3 e, ne_eqb tag 4 f, ne_eqb tag 2 g) refl)
 
@@ -176,50 +174,62 @@ module _ (metal : ℕ) (s : List ℕ) (at : ℕ) (ls : List Line) (o : Passing m
     pub pass_fits : {n : ℕ} → n ≡ size_of tag → length s ≤ 1048576 → Fits w64 (at + n)
     pass_fits e h = record { fits = omega (arith, pass-inside e) }
 
-    module _ {f : Field} {x : Stamp} (d : f ≡ priced_of tag (body_at s at tag)) (g : x ≡ stamp_of f) {n : ℕ} (e : n ≡ size_of tag) where
+    module _ {f : Option Field} (d : f ≡ priced_of tag (body_at s at tag)) where
       is : Priced f place.field
       is = rw (d, here-is s at place k) (priced tag (body_at s at tag))
 
-      -- behind a field of an instrument, and of none
-      own-by : {row : Metal} {start : ℕ} {y : Line} → x.instrument < 12 → row ≡ metal_of metal → start ≡ start_in row x.instrument → y ≡ line_with x.instrument start (get_or ls x.instrument (new_line 0)) f → Priced f place.field → Passing metal s (at + n) (set ls x.instrument y)
-      own-by {start = start} h w b c (same p) =
-          let j = x.instrument in
-          let on : instrument_of place.field ≡ j = ap instrument_of (sym p) ∙ ap (λ (y : Stamp). y.instrument) (sym g) in
-          let from : start ≡ start_of metal j = b ∙ ap (λ (r : Metal). start_in r j) w ∙ start-in metal j in
-          pass-next (line_of metal) (new_line 0) s at ls o l k e
-          (kept-one (line_of metal) (new_line 0) (line_step metal) (line-goes metal) o.kept place.field j h
-          (λ i m y q. step_other metal i y place.field m (λ r. q (sym on ∙ r)))
-          (c ∙ rw (from, p) (sym (step-own metal j (get_or ls j (new_line 0)) place.field h on))))
-      own-by h w b c (none p q) = absurd (omega (arith, h, p, ap (λ (y : Stamp). y.instrument) g))
+      -- a field that is read is the one that stands there
+      read : {g : Field} → f ≡ Some g → Priced f place.field → g ≡ place.field
+      read h (same p) = cc
+      read h (none p q) = clash cc
 
-      pub pass-own : {row : Metal} {start : ℕ} {y : Line} → x.instrument < 12 → row ≡ metal_of metal → start ≡ start_in row x.instrument → y ≡ line_with x.instrument start (get_or ls x.instrument (new_line 0)) f → Passing metal s (at + n) (set ls x.instrument y)
-      pass-own h w b c = own-by h w b c is
+      module _ {g : Field} (h : f ≡ Some g) where
+        pub pass-on : {x : Stamp} → Filled s → stamp_of g ≡ Some x → x.instrument < 12
+        pass-on filled m = stamp-on g m (rw (read h is) (pass-right (line_of metal) (new_line 0) s at ls o l filled))
 
-      above : 12 ≤ x.instrument → Priced f place.field → 12 ≤ instrument_of place.field
-      above h (same p) = omega (arith, h, ap instrument_of p, ap (λ (y : Stamp). y.instrument) g)
-      above h (none p q) = omega (arith, q)
+        -- behind a field of an instrument
+        pub pass-own : {x : Stamp} {n : ℕ} {row : Metal} {start : ℕ} {y : Line} → Filled s → stamp_of g ≡ Some x → n ≡ size_of tag → row ≡ metal_of metal → start ≡ start_in row x.instrument → y ≡ line_with x.instrument start (get_or ls x.instrument (new_line 0)) g → Passing metal s (at + n) (set ls x.instrument y)
+        pass-own {x} {start = start} filled m e w b c =
+            let j = x.instrument in
+            let on : instrument_of place.field ≡ j = ap instrument_of (sym (read h is)) ∙ ap instrument_in m in
+            let from : start ≡ start_of metal j = b ∙ ap (λ (r : Metal). start_in r j) w ∙ start-in metal j in
+            pass-next (line_of metal) (new_line 0) s at ls o l k e
+            (kept-one (line_of metal) (new_line 0) (line_step metal) (line-goes metal) o.kept place.field j (pass-on filled m)
+            (λ i m y q. step_other metal i y place.field m (λ r. q (sym on ∙ r)))
+            (c ∙ rw (from, read h is) (sym (step-own metal j (get_or ls j (new_line 0)) place.field (pass-on filled m) on))))
 
-      pub pass-none : 12 ≤ x.instrument → Passing metal s (at + n) ls
-      pass-none h =
+      -- behind a field of none
+      behind-none : {n : ℕ} → n ≡ size_of tag → instrument_of place.field ≡ 12 → Passing metal s (at + n) ls
+      behind-none e h =
           pass-next (line_of metal) (new_line 0) s at ls o l k e
           (kept-none (line_of metal) (new_line 0) (line_step metal) (line-goes metal) o.kept place.field
-          (λ i m y. step_other metal i y place.field m (λ p. omega (arith, above h is, p))))
+          (λ i m y. step_other metal i y place.field m (λ p. omega (arith, h, p))))
+
+      pub pass-unstamped : {g : Field} {x : Option Stamp} {n : ℕ} → f ≡ Some g → x ≡ stamp_of g → x ≡ None → n ≡ size_of tag → Passing metal s (at + n) ls
+      pass-unstamped h y m e = behind-none e (ap instrument_of (sym (read h is)) ∙ ap instrument_in (sym y ∙ m))
+
+      pub pass-unread : {n : ℕ} → f ≡ None → n ≡ size_of tag → Passing metal s (at + n) ls
+      pass-unread h e = behind-none e (by is)
+        where
+          by : Priced f place.field → instrument_of place.field ≡ 12
+          by (same p) = clash cc
+          by (none p q) = q
 
 -- ---- the loop over the lines
 
 -- the first k sums are told
-pub record Summing (metal : ℕ) (fs : List Field) (r : List Summed) (k : ℕ) : Type 0 where
+pub record Summing (metal : ℕ) (fs : List Field) (r : List (Option ℤ)) (k : ℕ) : Type 0 where
   pub long : length r ≡ 12
-  pub each : (i : ℕ) → i < k → span_says (get_or r i S.Missing) ≡ span_of i (start_of metal i) fs
+  pub each : (i : ℕ) → i < k → span_says (get_or r i None) ≡ span_of i (start_of metal i) fs
 
 -- what the pass asks of the sheet
 pub lines-ready : (s : List ℕ) → Accepted s → Filled s × (length s ≤ 1048576)
 lines-ready s a = (accepted-filled s a.day a.judged, accepted-small s a.day a.judged)
 
-pub sum-start : (metal : ℕ) (fs : List Field) (r : List Summed) → length r ≡ 12 → Summing metal fs r 0
+pub sum-start : (metal : ℕ) (fs : List Field) (r : List (Option ℤ)) → length r ≡ 12 → Summing metal fs r 0
 sum-start metal fs r e = record { long = e; each = λ i h. absurd (omega arith) }
 
-pub sum_done : (metal : ℕ) (fs : List Field) (r : List Summed) (k : ℕ) → Summing metal fs r k → 12 ≤ k → Sums metal fs r
+pub sum_done : (metal : ℕ) (fs : List Field) (r : List (Option ℤ)) (k : ℕ) → Summing metal fs r k → 12 ≤ k → Sums metal fs r
 sum_done metal fs r k o l = record { long = o.long; each = λ i h. o.each i (omega arith) }
 
 module _ (metal : ℕ) (s : List ℕ) (a : Accepted s) (ls : List Line) (kept : Kept (line_of metal) (new_line 0) (fields_of s) ls) (k : ℕ) (h : k < 12) {row : Metal} {x : ℕ} (w : row ≡ metal_of metal) (e : x ≡ start_in row k) where
@@ -231,15 +241,15 @@ module _ (metal : ℕ) (s : List ℕ) (a : Accepted s) (ls : List Line) (kept : 
   sum-fair = rw (starts, kept.each k h) (fair-line metal k (fields_of s) (accepted-sound s a.day a.judged))
 
   -- one more
-  pub sum-next : (r : List Summed) → Summing metal (fields_of s) r k → (v : Summed) → span_says v ≡ line_sum x (get_or ls k (new_line 0)) → Summing metal (fields_of s) (set r k v) (k + 1)
+  pub sum-next : (r : List (Option ℤ)) → Summing metal (fields_of s) r k → (v : Option ℤ) → span_says v ≡ line_sum x (get_or ls k (new_line 0)) → Summing metal (fields_of s) (set r k v) (k + 1)
   sum-next r o v g = record { long = length-set r k v ∙ o.long; each = λ i l. by_place i l (dec_lt i k) }
     where
       told : span_says v ≡ span_of k (start_of metal k) (fields_of s)
       told = g ∙ rw (starts, kept.each k h) (line-is metal k (fields_of s) (accepted-rising s a))
 
-      by_place : (i : ℕ) → i < k + 1 → Dec (i < k) → span_says (get_or (set r k v) i S.Missing) ≡ span_of i (start_of metal i) (fields_of s)
-      by_place i l (yes m) = ap span_says (get_or-set_other r k i v S.Missing (λ p. omega arith)) ∙ o.each i m
-      by_place i l (no m) = let same : i ≡ k = omega arith in rw same (ap span_says (get_or-set_same r k v S.Missing (omega (arith, o.long))) ∙ told)
+      by_place : (i : ℕ) → i < k + 1 → Dec (i < k) → span_says (get_or (set r k v) i None) ≡ span_of i (start_of metal i) (fields_of s)
+      by_place i l (yes m) = ap span_says (get_or-set_other r k i v None (λ p. omega arith)) ∙ o.each i m
+      by_place i l (no m) = let same : i ≡ k = omega arith in rw same (ap span_says (get_or-set_same r k v None (omega (arith, o.long))) ∙ told)
 
 -- ---- an accepted sheet's spans
 
