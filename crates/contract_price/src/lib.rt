@@ -5,127 +5,87 @@
 ghost use Rattle.std.specs.Prelude.{◌≡◌, ◌<◌};
 ghost use Rattle.twap.specs.Span.{span_says};
 ghost use Rattle.price_rules.specs.Closing.{twap_by, answered};
-ghost use Rattle.price_rules.specs.laws.Adding.{Bounded, paired};
-ghost use Rattle.price_rules.specs.Says.{answer_says};
-ghost use Rattle.contract_price.specs.laws.Numbers.{Summable, Lent, mean_by, row_by, step_by};
+ghost use Rattle.price_rules.specs.Says.{answer_says, known_says};
+ghost use Rattle.contract_price.specs.laws.Numbers.{Summable, mean_by, row_by, step_by};
 
-use cents::{Rounded, rounded_close};
-use market::{MINIMUM_LOTS, WINDOW, contract_by, is_marked, is_named, leg_of, step_by};
-use price_rules::{Answer, Mean, Method, Sum, implied_price, vwap_sum};
-use twap::Summed;
+use cents::rounded_close;
+use market::{MINIMUM_LOTS, WINDOW, contract_of, is_marked, is_named, leg_of, step_by};
+use price_rules::{Answer, Book, Closes, Known, Mean, Method, Sum, implied_price, vwap_sum};
 
-// The mean of the indicator over the window, applied to the other leg's close.
-fn indicator_mean(marks: u16, closes: &[u32], i: u8, span: Summed) -> Mean
-    requires { Summable (span_says span) × Bounded closes.now }
-    ensures { result ≡ twap_by marks closes.now i (span_says span) }
+// The mean of the indicator over the window, applied to the other leg's close; none where there is no reference.
+fn indicator_mean(marks: u16, closes: &Closes, i: u8, span: Option<i64>) -> Option<Mean>
+    requires { Summable (span_says span) }
+    ensures { result ≡ twap_by marks closes.now.cents i (span_says span) }
 {
-    match span {
-        Summed::Missing => Mean::Missing,
-        Summed::Sum(total) => Mean::Of {
-            method: Method::Twap,
-            sum: implied_price(
-                closes,
-                leg_of(i),
-                is_marked(marks, i),
-                WINDOW as u64,
-                total.cents,
-            ),
-            weight: WINDOW as u64,
-        },
-    }
+    let total = span?;
+    let times = WINDOW as u64;
+    Some(Mean {
+        method: Method::Twap,
+        sum: implied_price(closes, leg_of(i), is_marked(marks, i), times, total),
+        weight: times,
+    })
 }
 
 // VWAP at the minimum of lots or more, TWAP below.
-fn mean_by_lots(marks: u16, closes: &[u32], i: u8, s: Sum, span: Summed) -> Mean
-    requires { Summable (span_says span) × Bounded closes.now }
-    ensures { result ≡ mean_by marks closes.now i s (span_says span) }
+fn mean_by_lots(marks: u16, closes: &Closes, i: u8, s: Sum, span: Option<i64>) -> Option<Mean>
+    requires { Summable (span_says span) }
+    ensures { result ≡ mean_by marks closes.now.cents i s (span_says span) }
 {
-    let lots = s.lots;
-    if MINIMUM_LOTS <= lots {
-        Mean::Of {
+    if MINIMUM_LOTS <= s.lots {
+        Some(Mean {
             method: Method::Vwap,
             sum: s.sum,
-            weight: lots,
-        }
+            weight: s.lots,
+        })
     } else {
         indicator_mean(marks, closes, i, span)
     }
 }
 
 // The rounded mean as an answer.
-fn rounded(mean: Mean, lots: u64, step: u32) -> Answer
+fn rounded(mean: Option<Mean>, lots: u64, step: u32) -> Answer
     ensures { answer_says result ≡ answered step lots mean }
 {
     match mean {
-        Mean::Of {
-            method,
-            sum,
-            weight,
-        } => match rounded_close(sum, weight, step) {
-            Rounded::Close(close) => Answer::Priced {
+        Some(
+            Mean {
+                method,
+                sum,
+                weight,
+            },
+        ) => match rounded_close(sum, weight, step) {
+            Some(close) => Answer::Priced {
                 method,
                 close,
                 lots,
             },
-            Rounded::OutOfRange => Answer::OutOfRange(lots),
+            None => Answer::OutOfRange(lots),
         },
-        Mean::Missing => Answer::NoReference(lots),
+        None => Answer::NoReference(lots),
     }
 }
 
 // One contract, by its row and the closes before it.
-fn answer_by_row(
-    metal: u8,
-    marks: u16,
-    rows: &[[u8; 4]; 6],
-    legs: &[[u8; 2]; 12],
-    lots: &[u64; 12],
-    values: &[i64; 12],
-    closes: &[u32],
-    span: Summed,
-    c: usize,
-) -> Answer
-    requires { Lent rows.now legs.now lots.now values.now span × Bounded closes.now × (c < 6) }
-    ensures { answer_says result ≡ row_by metal marks (paired lots.now values.now) closes.now (span_says span) c }
+fn answer_by_row(book: &Book, closes: &Closes, span: Option<i64>, c: usize) -> Answer
+    requires { Summable (span_says span) × (c < 6) }
+    ensures { answer_says result ≡ row_by book.now.metal book.now.marks book.now.totals closes.now.cents (span_says span) c }
 {
-    let row = contract_by(rows[c]);
-    let s = vwap_sum(
-        marks,
-        legs,
-        lots,
-        values,
-        closes,
-        row.first,
-        row.past - row.first,
-    );
-    let mean = mean_by_lots(marks, closes, row.twap, s, span);
-    rounded(mean, s.lots, step_by(metal, row.step))
+    let row = contract_of(c);
+    let s = vwap_sum(book, closes, row.first, row.past);
+    let mean = mean_by_lots(book.marks, closes, row.twap, s, span);
+    rounded(mean, s.lots, step_by(book.metal, row.step))
 }
 
-// The answer of a contract, with what is known before it: where 3M is that contract, 3M's. The tables, the totals and the closes are lent: copies
-// cost more than the pricing.
-pub fn price_one(
-    metal: u8,
-    marks: u16,
-    third: u8,
-    rows: &[[u8; 4]; 6],
-    legs: &[[u8; 2]; 12],
-    lots: &[u64; 12],
-    values: &[i64; 12],
-    closes: &[u32],
-    span: Summed,
-    stopped: bool,
-    three: Answer,
-    c: usize,
-) -> Answer
-    requires { Lent rows.now legs.now lots.now values.now span × Bounded closes.now × (c < 6) }
-    ensures { answer_says result ≡ step_by metal marks third (paired lots.now values.now) (span_says span) (record { closes = closes.entry.now; stopped = stopped; three = answer_says three }) c }
+// The answer of a contract, with what is known before it: where 3M is that contract, 3M's.
+pub fn price_one(book: &Book, known: &Known, span: Option<i64>, c: usize) -> Answer
+    requires { Summable (span_says span) × (c < 6) }
+    ensures { answer_says result ≡ step_by book.now.metal book.now.marks book.now.third book.now.totals (span_says span) (known_says known.now) c }
 {
-    if stopped {
+    if known.stopped {
         return Answer::NotReached;
     }
-    if is_named(third, c) {
-        return three;
+    if is_named(book.third, c) {
+        return known.three;
     }
-    answer_by_row(metal, marks, rows, legs, lots, values, closes, span, c)
+    answer_by_row(book, &known.closes, span, c)
 }

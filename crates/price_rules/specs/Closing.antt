@@ -1,5 +1,5 @@
 -- RULES 2 and 4 to 9: the six answers, from the trades of each instrument that count and the sum of its indicator.
-use Rattle.std.specs.Prelude.{ℕ, zero, suc, ◌+◌, ◌-◌, ◌*◌, Bool, true, false, not, cond, List, [], ◌∷◌, leb, eqb, ℤ, pos, ◌+ℤ◌, ◌-ℤ◌, ◌*ℤ◌, get_or, set}
+use Rattle.std.specs.Prelude.{ℕ, zero, suc, ◌+◌, ◌-◌, ◌*◌, Bool, true, false, not, cond, List, [], ◌∷◌, leb, eqb, ℤ, pos, ◌+ℤ◌, ◌-ℤ◌, ◌*ℤ◌, get_or, set, Option, Some, None}
 use Rattle.field.specs.declared.Field.{Field}
 use Rattle.field.specs.Judging.{third_of}
 use Rattle.market.specs.declared.Leg.{Leg}
@@ -17,7 +17,6 @@ use Rattle.sheet.specs.Judgement.{Verdict, accepts, refuses-at, judge_sheet}
 use Rattle.price_rules.specs.declared.Method.{Method}
 use Rattle.price_rules.specs.declared.Method.TheVariants.{Vwap, Twap}
 use Rattle.price_rules.specs.declared.Mean.{Mean}
-use Rattle.price_rules.specs.declared.Mean.TheVariants.{Of, Missing}
 
 -- what pricing goes by: the header, and of each instrument its in-window trades and the sum of its indicator over the window
 pub record Figures : Type 0 where
@@ -73,20 +72,24 @@ unfoldable pub vwap_lots : Figures → ℕ → ℕ → ℕ
 vwap_lots day first zero = 0
 vwap_lots day first (suc n) = vwap_lots day first n + lots_in (day.trades (first + n))
 
--- RULES 6: the sum of the indicator over the window's milliseconds, applied to the other leg's close as often
-abbrev pub twap_by : ℕ → List ℕ → ℕ → Span → Mean
-twap_by marks closes i missing = Missing
-twap_by marks closes i (sum s) = Of Twap (implied_by marks closes i window_length s) window_length
+-- what is divided by what
+abbrev pub mean : Method → ℤ → ℕ → Mean
+mean method n d = record { method = method; sum = n; weight = d }
+
+-- RULES 6: the sum of the indicator over the window's milliseconds, applied to the other leg's close as often; none where there is no reference
+abbrev pub twap_by : ℕ → List ℕ → ℕ → Span → Option Mean
+twap_by marks closes i missing = None
+twap_by marks closes i (sum s) = Some (mean Twap (implied_by marks closes i window_length s) window_length)
 
 -- RULES 4: a contract's lots, the sum over all its VWAP instruments
 abbrev pub lots_of : Figures → Contract → ℕ
 lots_of day r = vwap_lots day r.first (r.past - r.first)
 
 -- RULES 4: VWAP at the minimum or more, TWAP below
-abbrev pub mean_of : Figures → List ℕ → Contract → Mean
+abbrev pub mean_of : Figures → List ℕ → Contract → Option Mean
 mean_of day closes r =
     cond (leb minimum_lots (lots_of day r))
-    (Of Vwap (vwap_sum day closes r.first (r.past - r.first)) (lots_of day r))
+    (Some (mean Vwap (vwap_sum day closes r.first (r.past - r.first)) (lots_of day r)))
     (twap_by day.marks closes r.twap (day.span r.twap))
 
 -- ---- the answers
@@ -102,9 +105,9 @@ closed method lots (cents.close m) = close method m lots
 closed method lots (cents.refused number) = refused number lots
 
 -- RULES 8: rounded once, at the end; RULES 9, 13: no reference
-abbrev pub answered : ℕ → ℕ → Mean → Told
-answered step lots (Of method n d) = closed method lots (close_of (round n d step))
-answered step lots Missing = refused 13 lots
+abbrev pub answered : ℕ → ℕ → Option Mean → Told
+answered step lots (Some m) = closed m.method lots (close_of (round m.sum m.weight step))
+answered step lots None = refused 13 lots
 
 -- one contract, by its row and the closes before it
 unfoldable pub row_answer : Figures → List ℕ → ℕ → Told

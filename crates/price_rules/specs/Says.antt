@@ -5,7 +5,8 @@ use Rattle.price_rules.specs.declared.Answer.TheVariants.{Priced, NoReference, O
 use Rattle.price_rules.specs.declared.SixAnswers.{SixAnswers}
 use Rattle.price_rules.specs.declared.Closed.{Closed}
 use Rattle.price_rules.specs.declared.Closed.TheVariants as C
-use Rattle.price_rules.specs.Closing.{Told, close, refused, Answers, six, none-priced}
+use Rattle.price_rules.specs.declared.Known as code
+use Rattle.price_rules.specs.Closing.{Told, close, refused, Known, Answers, six, none-priced}
 
 -- a contract's answer: 13 and 14 with the lots, 15 with 0 lots
 abbrev pub answer_says : Answer → Told
@@ -13,6 +14,10 @@ answer_says (Priced method m lots) = close method m lots
 answer_says (NoReference lots) = refused 13 lots
 answer_says (OutOfRange lots) = refused 14 lots
 answer_says NotReached = refused 15 0
+
+-- what is known before a contract
+abbrev pub known_says : code.Known → Known
+known_says k = record { closes = k.closes.cents; stopped = k.stopped; three = answer_says k.three }
 
 -- the six in pricing order
 abbrev pub closings_say : SixAnswers → List Told

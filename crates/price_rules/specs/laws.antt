@@ -1,3 +1,4 @@
 pub mod Adding
 pub mod Says
+pub mod Sizes
 pub mod Cases

@@ -2,15 +2,17 @@
 // its functions ask of their caller, `six_answers` has from an accepted sheet.
 #![tactic(auto)]
 
-ghost use Rattle.std.specs.Prelude.{◌≡◌, ◌+◌, ◌*◌, ◌≤◌, ◌<◌, pos, nat_abs, get_or};
-ghost use Rattle.trades.specs.laws.Trades.{AllSmall};
-ghost use Rattle.market.specs.Market.{instruments};
-ghost use Rattle.price_rules.specs.Closing.{applied, less_of, base_of};
-ghost use Rattle.price_rules.specs.laws.Adding.{Bounded, Within, paired, total_at, add_instrument, sum_by};
+ghost use Rattle.std.specs.Prelude.{◌≡◌, ◌-◌, ◌*◌, ◌≤◌, ◌<◌, pos, nat_abs};
+ghost use Rattle.price_rules.specs.Closing.{applied, less_of, base_of, nothing_known, learnt};
+ghost use Rattle.price_rules.specs.Says.{answer_says, known_says};
+ghost use Rattle.price_rules.specs.laws.Sizes.{Small};
+ghost use Rattle.price_rules.specs.laws.Adding.{Within, total_at, add_instrument, sum_by};
 
-use market::{Leg, is_marked, leg_by};
+mod lent;
+
+pub use lent::{Book, Closes};
+use market::{Leg, is_marked, leg_of};
 use sheet::Day;
-use trades::Total;
 
 #[derive(Clone, Copy)]
 pub enum Method {
@@ -52,13 +54,12 @@ pub enum Closed {
     Refused(u8, usize),
 }
 
-// What the six contracts are priced from, besides the sheet: its header and the totals of its trades.
+// What is known before a contract: the closes established so far, whether a contract was refused, and 3M's answer.
 #[derive(Clone, Copy)]
-pub struct Book {
-    pub metal: u8,
-    pub marks: u16,
-    pub third: u8,
-    pub totals: [Total; 12],
+pub struct Known {
+    pub closes: Closes,
+    pub stopped: bool,
+    pub three: Answer,
 }
 
 // Lots, and the sum of lots times implied price.
@@ -70,34 +71,43 @@ pub struct Sum {
 
 // What is divided by what.
 #[derive(Clone, Copy)]
-pub enum Mean {
-    Of {
-        method: Method,
-        sum: i64,
-        weight: u64,
-    },
-    Missing,
+pub struct Mean {
+    pub method: Method,
+    pub sum: i64,
+    pub weight: u64,
 }
 
-// An established close; 0 where there is none.
-fn established_close(closes: &[u32], c: usize) -> u32
-    ensures { result ≡ get_or closes.now c 0 }
-{
-    if c < closes.len() { closes[c] } else { 0 }
-}
+impl Known {
+    // Before the first contract.
+    pub fn nothing() -> Self
+        ensures { known_says result ≡ nothing_known }
+    {
+        Known {
+            closes: Closes::none(),
+            stopped: false,
+            three: Answer::NotReached,
+        }
+    }
 
-// The other leg's close.
-fn other_close(closes: &[u32], leg: Leg) -> u32
-    ensures { result ≡ base_of closes.now leg }
-{
-    match leg {
-        Leg::Outright => 0,
-        Leg::Over(c) => established_close(closes, c),
-        Leg::Under(c) => established_close(closes, c),
+    // Behind a contract's answer.
+    pub fn learn(&mut self, contract: usize, answer: Answer)
+        requires { (contract < 6) × Small (answer_says answer) }
+        ensures { known_says self.new ≡ learnt (known_says self.old) contract (answer_says answer) }
+    {
+        match answer {
+            Answer::Priced { close, .. } => {
+                self.closes.establish(contract, close);
+                self.stopped = false;
+            }
+            _ => self.stopped = true,
+        }
+        if contract == 0 {
+            self.three = answer;
+        }
     }
 }
 
-// Whether a quoted price is subtracted from that close, and not added.
+// Whether a quoted price is subtracted from the other leg's close, and not added.
 fn less(leg: Leg, mark: bool) -> bool
     ensures { result ≡ less_of leg mark }
 {
@@ -118,55 +128,36 @@ fn apply(times: u64, close: u32, less: bool, value: i64) -> i64
 }
 
 // An instrument's part in a sum, by its leg and its mark: so many times the other leg's close, with its value as quoted.
-pub fn implied_price(closes: &[u32], leg: Leg, mark: bool, times: u64, value: i64) -> i64
-    requires { Bounded closes.now × (times ≤ 10485760000) × (nat_abs value ≤ 1048576000000000000) }
-    ensures { result ≡ applied (less_of leg mark) (pos (times * base_of closes.now leg)) value }
+pub fn implied_price(closes: &Closes, leg: Leg, mark: bool, times: u64, value: i64) -> i64
+    requires { (times ≤ 10485760000) × (nat_abs value ≤ 1048576000000000000) }
+    ensures { result ≡ applied (less_of leg mark) (pos (times * base_of closes.now.cents leg)) value }
 {
-    let close = other_close(closes, leg);
-    apply(times, close, less(leg, mark), value)
+    apply(times, closes.under(leg), less(leg, mark), value)
 }
 
-// A sum with one instrument more, by the rows, the totals and the closes lent.
-fn with_instrument(
-    marks: u16,
-    legs: &[[u8; 2]; 12],
-    lots: &[u64; 12],
-    values: &[i64; 12],
-    closes: &[u32],
-    s: Sum,
-    i: u8,
-) -> Sum
-    requires { (legs.now ≡ instruments) × AllSmall 1048576 (paired lots.now values.now) × Bounded closes.now × Within 3 s × (i < 12) }
-    ensures { result ≡ add_instrument marks closes.now s i (total_at (paired lots.now values.now) i) }
-{
-    let k = i as usize;
-    let times = lots[k];
-    let leg = leg_by(legs[k]);
-    let sum = s.sum;
-    Sum {
-        lots: s.lots + times,
-        sum: sum + implied_price(closes, leg, is_marked(marks, i), times, values[k]),
+impl Sum {
+    // The sum with one instrument more.
+    fn with_instrument(self, book: &Book, closes: &Closes, i: u8) -> Self
+        requires { Within 3 self × (i < 12) }
+        ensures { result ≡ add_instrument book.now.marks closes.now.cents self i (total_at book.now.totals i) }
+    {
+        let total = book.totals[i as usize];
+        let mark = is_marked(book.marks, i);
+        Sum {
+            lots: self.lots + total.lots,
+            sum: self.sum + implied_price(closes, leg_of(i), mark, total.lots, total.value),
+        }
     }
 }
 
-// The sum over the instruments from first on.
-pub fn vwap_sum(
-    marks: u16,
-    legs: &[[u8; 2]; 12],
-    lots: &[u64; 12],
-    values: &[i64; 12],
-    closes: &[u32],
-    first: u8,
-    count: u8,
-) -> Sum
-    requires { (legs.now ≡ instruments) × AllSmall 1048576 (paired lots.now values.now) × Bounded closes.now × (count ≤ 4) × (first + count ≤ 12) }
-    ensures { result ≡ sum_by marks closes.now (paired lots.now values.now) first count }
+// The sum over the instruments from first on, below past.
+pub fn vwap_sum(book: &Book, closes: &Closes, first: u8, past: u8) -> Sum
+    requires { (first ≤ past) × (past - first ≤ 4) × (past ≤ 12) }
+    ensures { result ≡ sum_by book.now.marks closes.now.cents book.now.totals first (past - first) }
 {
-    let mut s = Sum { lots: 0, sum: 0 };
-    let mut k: u8 = 0;
-    while k < count {
-        s = with_instrument(marks, legs, lots, values, closes, s, first + k);
-        k += 1;
+    let mut sum = Sum { lots: 0, sum: 0 };
+    for i in first..past {
+        sum = sum.with_instrument(book, closes, i);
     }
-    s
+    sum
 }

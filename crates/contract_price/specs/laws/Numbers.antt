@@ -1,35 +1,32 @@
 -- A contract's answer by numbers alone: the totals of the trades, the sum of its TWAP instrument's indicator, and the closes before it.
 --     mean_by, row_by, step_by     its mean, its answer by its row, and its step of the list
 --     row_is, step_is           they are the definitions' of a day that has these numbers
---     Lent                      what is lent to price a contract, within the sizes that keep every sum within 64 bits
---     row_of, row-ruled         a row of the table as the code looks it up
+--     Summable                  the size of a sum over a window that keeps every sum within 64 bits
+--     row-ruled                 the rules of a row as the code looks it up
 -- Assumes nothing.
-use Rattle.std.specs.Prelude.{ℕ, ◌-◌, ◌≤◌, ◌<◌, ◌≡◌, Bool, ℤ, nat_abs, get_or}
+use Rattle.std.specs.Prelude.{ℕ, ◌-◌, ◌≤◌, ◌<◌, ◌≡◌, Bool, ℤ, nat_abs, Option, Some}
 use Rattle.std.proofs.Math.Path.{refl, sym, ap}
 use Rattle.std.proofs.Common.{◌∙◌, arith, leb-false, leb→le}
 use Rattle.std.proofs.Math.Bool.{true, false, cond}
-use mathlib.Core.List.{List, []}
+use mathlib.Core.List.{List}
 use Rattle.std.proofs.Math.Dec.{leb}
 use Rattle.market.specs.declared.Contract.{Contract}
-use Rattle.market.specs.Market.{minimum_lots, contracts, contract_by, contract_of, instruments, step_of, named}
+use Rattle.market.specs.Market.{minimum_lots, contract_of, step_of, named}
 use Rattle.market.specs.laws.Table.{below}
 use Rattle.market.specs.laws.Rules.{Ruled, ruled}
 use Rattle.trades.specs.declared.Total.{Total}
-use Rattle.trades.specs.laws.Trades.{AllSmall}
-use Rattle.twap.specs.declared.Summed.{Summed}
-use Rattle.twap.specs.Span.{Span, missing, sum, span_says}
+use Rattle.twap.specs.Span.{Span, missing, sum}
 use Rattle.price_rules.specs.declared.Method.TheVariants.{Vwap}
 use Rattle.price_rules.specs.declared.Mean.{Mean}
-use Rattle.price_rules.specs.declared.Mean.TheVariants.{Of}
 use Rattle.price_rules.specs.declared.Sum.{Sum}
-use Rattle.price_rules.specs.Closing.{Figures, twap_by, lots_of, Told, refused, answered, row_answer, Known, answer_by}
-use Rattle.price_rules.specs.laws.Adding.{Tallied, paired, sum_by, sum_is}
+use Rattle.price_rules.specs.Closing.{Figures, mean, twap_by, lots_of, Told, refused, answered, row_answer, Known, answer_by}
+use Rattle.price_rules.specs.laws.Adding.{Tallied, sum_by, sum_is}
 
 -- ---- by numbers
 
 -- VWAP at the minimum of lots or more, TWAP below
-abbrev pub mean_by : ℕ → List ℕ → ℕ → Sum → Span → Mean
-mean_by marks closes i t span = cond (leb minimum_lots t.lots) (Of Vwap t.sum t.lots) (twap_by marks closes i span)
+abbrev pub mean_by : ℕ → List ℕ → ℕ → Sum → Span → Option Mean
+mean_by marks closes i t span = cond (leb minimum_lots t.lots) (Some (mean Vwap t.sum t.lots)) (twap_by marks closes i span)
 
 -- the sum over a contract's VWAP instruments
 abbrev pub sum_over : ℕ → List ℕ → List Total → ℕ → Sum
@@ -40,7 +37,7 @@ row_by metal marks totals closes span c =
     let t = sum_over marks closes totals c in
     answered (step_of metal c) t.lots (mean_by marks closes (contract_of c).twap t span)
 
-pub row-built : (metal marks : ℕ) (totals : List Total) (closes : List ℕ) (span : Span) (c : ℕ) {t : Sum} {m : Mean} → t ≡ sum_over marks closes totals c → m ≡ mean_by marks closes (contract_of c).twap t span → answered (step_of metal c) t.lots m ≡ row_by metal marks totals closes span c
+pub row-built : (metal marks : ℕ) (totals : List Total) (closes : List ℕ) (span : Span) (c : ℕ) {t : Sum} {m : Option Mean} → t ≡ sum_over marks closes totals c → m ≡ mean_by marks closes (contract_of c).twap t span → answered (step_of metal c) t.lots m ≡ row_by metal marks totals closes span c
 unfolding row_by
 row-built metal marks totals closes span c e g = rw (g, e) refl
 
@@ -78,7 +75,7 @@ module _ (day : Figures) (totals : List Total) (tallied : Tallied day totals) (c
         rw (sum_is day closes totals tallied (contract_of c).first ((contract_of c).past - (contract_of c).first) (omega (arith, row.order, row.among, row.inside)))
         (ap (answered (step_of day.metal c) (lots_of day (contract_of c))) (by-lots closes (leb minimum_lots (lots_of day (contract_of c))) refl _))
       where
-        by-lots : (closes : List ℕ) (b : Bool) → leb minimum_lots (lots_of day (contract_of c)) ≡ b → (m : Mean) → cond b m (twap_by day.marks closes (contract_of c).twap span) ≡ cond b m (twap_by day.marks closes (contract_of c).twap (day.span (contract_of c).twap))
+        by-lots : (closes : List ℕ) (b : Bool) → leb minimum_lots (lots_of day (contract_of c)) ≡ b → (m : Option Mean) → cond b m (twap_by day.marks closes (contract_of c).twap span) ≡ cond b m (twap_by day.marks closes (contract_of c).twap (day.span (contract_of c).twap))
         by-lots closes true e m = refl
         by-lots closes false e m = ap (twap_by day.marks closes (contract_of c).twap) (asked (leb-false minimum_lots (lots_of day (contract_of c)) e))
 
@@ -100,23 +97,11 @@ Summable (sum z) = nat_abs z ≤ 29999999700000
 pub summed-small : {span : Span} {z : ℤ} → Summable span → sum z ≡ span → nat_abs z ≤ 29999999700000
 summed-small {span} h e = rw (← e) at h
 
--- what is lent to price a contract: the rows of the tables, the totals of the trades, and the sum over the window
-pub record Lent (table spreads : List (List ℕ)) (lots : List ℕ) (values : List ℤ) (span : Summed) : Type 0 where
-  pub rows : table ≡ contracts
-  pub legs : spreads ≡ instruments
-  pub small : AllSmall 1048576 (paired lots values)
-  pub summable : Summable (span_says span)
-
 -- a contract has at most four VWAP instruments
 pub few : (c : ℕ) → c < 6 → (contract_of c).past - (contract_of c).first ≤ 4
 unfolding contract_of
 few c h = leb→le _ _ (below (λ c. leb ((contract_of c).past - (contract_of c).first) 4) 6 c tt h)
 
 -- a row of the table as the code looks it up, and its rules
-module _ (c : ℕ) {row : Contract} {table : List (List ℕ)} (e : row ≡ contract_by (get_or table c [])) (t : table ≡ contracts) where
-  pub row_of : row ≡ contract_of c
-  unfolding contract_of
-  row_of = e ∙ ap (λ (l : List (List ℕ)). contract_by (get_or l c [])) t
-
-  pub row-ruled : c < 6 → Ruled c row
-  row-ruled h = rw row_of (ruled c h)
+pub row-ruled : (c : ℕ) {row : Contract} → row ≡ contract_of c → c < 6 → Ruled c row
+row-ruled c e h = rw e (ruled c h)

@@ -1,40 +1,23 @@
 -- What the code adds up: the totals of the instruments, each applied to the other leg's close as often as it has lots; and that it is the sum
 -- of lots times implied price, trade by trade.
 --     sum_by      the code's sum;  sum_is    it is the one of RULES 5
---     Priceable, Bounded, Within     the sizes that keep every sum within 64 bits
+--     Within     the sizes that keep every sum within 64 bits
 -- Assumes nothing.
 use Rattle.std.specs.Prelude.{ℕ, zero, suc, ◌+◌, ◌*◌, ◌≤◌, ◌<◌, ◌≡◌, refl, Bool, true, false, List, [], ◌∷◌, ℤ, pos, nat_abs, ◌+ℤ◌, ◌*ℤ◌, get_or}
 use Rattle.std.proofs.Common.{sym, ap, ◌∙◌, add-mul, mul-zero, mul-add, mul-le-mul, add-one, arith}
 use Rattle.market.specs.declared.Leg.{Leg}
-use Rattle.market.specs.declared.Leg.TheVariants.{Outright, Over, Under}
 use Rattle.market.specs.Market.{leg_of, marked}
 use Rattle.cents.specs.laws.Whole.{up, down, is, is-+, is--, is-*, is_pos, show-≡, size-+, size--}
 use Rattle.trades.specs.declared.Total.{Total}
 use Rattle.trades.specs.Trades.{Deal, lots_in, value_in, sums_of, none}
 use Rattle.trades.specs.laws.Trades.{Small}
 use Rattle.price_rules.specs.declared.Sum.{Sum}
+use Rattle.price_rules.specs.laws.Sizes.{Bounded, base-small}
 use Rattle.price_rules.specs.Closing.{Figures, applied, less_of, base_of, implied_by, implied, deals_sum, vwap_sum, vwap_lots}
 
 -- an instrument's total; none where there is no such instrument
 abbrev pub total_at : List Total → ℕ → Total
 total_at totals i = get_or totals i none
-
--- the totals of which lots and values are lent apart
-unfoldable pub paired : List ℕ → List ℤ → List Total
-paired [] [] = []
-paired [] (v ∷ vs) = record { lots = 0; value = v } ∷ paired [] vs
-paired (l ∷ ls) [] = record { lots = l; value = pos 0 } ∷ paired ls []
-paired (l ∷ ls) (v ∷ vs) = record { lots = l; value = v } ∷ paired ls vs
-
-pub paired_at : (ls : List ℕ) (vs : List ℤ) (i : ℕ) → total_at (paired ls vs) i ≡ record { lots = get_or ls i 0; value = get_or vs i (pos 0) }
-unfolding paired
-paired_at [] [] i = refl
-paired_at [] (v ∷ vs) zero = refl
-paired_at [] (v ∷ vs) (suc i) = paired_at [] vs i
-paired_at (l ∷ ls) [] zero = refl
-paired_at (l ∷ ls) [] (suc i) = paired_at ls [] i
-paired_at (l ∷ ls) (v ∷ vs) zero = refl
-paired_at (l ∷ ls) (v ∷ vs) (suc i) = paired_at ls vs i
 
 -- a sum with one instrument more
 abbrev pub add_instrument : ℕ → List ℕ → Sum → ℕ → Total → Sum
@@ -56,19 +39,10 @@ sum-next marks closes totals first n e f = f ∙ rw (e, add-one n)
 
 -- ---- sizes
 
--- every close is at most 99,999,999
-pub record Bounded (closes : List ℕ) : Type 0 where
-  pub small : (c : ℕ) → get_or closes c 0 ≤ 99999999
-
 -- a sum of n instruments' parts is no larger than that
 pub record Within (n : ℕ) (s : Sum) : Type 0 where
   pub lots : s.lots ≤ n * 10485760000
   pub sum : nat_abs s.sum ≤ n * 2100000000000000000
-
-pub base-small : {closes : List ℕ} → Bounded closes → (leg : Leg) → base_of closes leg ≤ 99999999
-base-small b Outright = omega arith
-base-small b (Over c) = b.small c
-base-small b (Under c) = b.small c
 
 applied-size : (less : Bool) (x y : ℤ) → nat_abs (applied less x y) ≤ nat_abs x + nat_abs y
 applied-size true x y = size-- x y
@@ -79,9 +53,9 @@ unfolding implied_by
 implied-size marks {closes} b i times value h k =
     omega (arith, applied-size (less_of (leg_of i) (marked marks i)) (pos (times * base_of closes (leg_of i))) value, mul-le-mul h (base-small b (leg_of i)))
 
--- what is lent of an instrument is within its bounds
-pub lent-small : (ls : List ℕ) (vs : List ℤ) (i : ℕ) → Small 1048576 (total_at (paired ls vs) i) → (get_or ls i 0 ≤ 10485760000) × (nat_abs (get_or vs i (pos 0)) ≤ 1048576000000000000)
-lent-small ls vs i small = let s = rw (paired_at ls vs i) at small in (omega (arith, s.lots), omega (arith, s.value))
+-- an instrument's total is within its bounds
+pub total-small : (t : Total) → Small 1048576 t → (t.lots ≤ 10485760000) × (nat_abs t.value ≤ 1048576000000000000)
+total-small t s = (omega (arith, s.lots), omega (arith, s.value))
 
 pub within_none : Within 0 (record { lots = 0; sum = pos 0 })
 within_none = record { lots = omega arith; sum = omega arith }
