@@ -3,13 +3,12 @@
 --     known-bounded    every close that is known is at most 99,999,999
 --     Stands           the code's state before a contract: at the first, one step on, and behind the last
 -- Assumes nothing.
-use Rattle.std.specs.Prelude.{◌≡◌, refl, Bool, true, false, ◌&&◌, cond, List, [], ◌∷◌, ℕ, zero, suc, ◌+◌, ◌≤◌, ◌<◌, T, leb, eqb, length, set, replicate, ℤ, pos, negsuc}
+use Rattle.std.specs.Prelude.{◌≡◌, refl, Bool, true, false, ◌&&◌, cond, List, [], ◌∷◌, ℕ, zero, suc, ◌+◌, ◌≤◌, ◌<◌, T, leb, eqb, length, set, replicate, ℤ, pos, negsuc, Option, Some, None}
 use Rattle.std.proofs.Math.Path.{ap}
-use Rattle.std.proofs.Common.{◌∙◌, arith, ne_eqb, leb→le, get_or-set_same, get_or-set_other}
+use Rattle.std.proofs.Common.{◌∙◌, arith, leb→le, get_or-set_same, get_or-set_other}
 use Rattle.std.proofs.Math.Numerals.{add-one}
 use Rattle.std.proofs.Math.Decide.{dec_lt}
 use Rattle.std.proofs.Math.ListN.{get_or, length-set}
-use Rattle.std.proofs.lemmas.List.{set-get_or}
 use Rattle.market.specs.Market.{3M, contract_of, step_of, named}
 use Rattle.cents.specs.Round.{round}
 use Rattle.cents.specs.Close.{close_of}
@@ -17,13 +16,13 @@ use Rattle.cents.specs.Close as cents
 use Rattle.price_rules.specs.declared.Method.{Method}
 use Rattle.price_rules.specs.declared.Method.TheVariants.{Vwap}
 use Rattle.price_rules.specs.declared.Mean.{Mean}
-use Rattle.price_rules.specs.declared.Mean.TheVariants.{Of, Missing}
 use Rattle.price_rules.specs.declared.Answer.{Answer}
 use Rattle.price_rules.specs.declared.Answer.TheVariants.{Priced}
 use Rattle.price_rules.specs.declared.SixAnswers.{SixAnswers}
-use Rattle.price_rules.specs.Closing.{Figures, lots_of, mean_of, Told, close, refused, closed, answered, row_answer, Known, answer_by, closes_with, is_refused, learnt, nothing_known, known_at, answer_of, closings_of}
-use Rattle.price_rules.specs.laws.Adding.{Bounded}
-use Rattle.price_rules.specs.Says.{answer_says, closings_say}
+use Rattle.price_rules.specs.Closing.{Figures, lots_of, mean_of, Told, close, refused, closed, answered, row_answer, Known, answer_by, closes_with, learnt, nothing_known, known_at, answer_of, closings_of}
+use Rattle.price_rules.specs.laws.Sizes.{Bounded, bounded-set, Small}
+use Rattle.price_rules.specs.declared.Known as code
+use Rattle.price_rules.specs.Says.{answer_says, known_says, closings_say}
 
 -- ---- a rounded price
 
@@ -46,11 +45,6 @@ view (negsuc m) = no-price refl
 
 -- ---- every close that is known is a close
 
--- the close of an answer, where it has one
-abbrev pub Small : Told → Type 0
-Small (close method m lots) = m ≤ 99999999
-Small (refused number lots) = Unit {0}
-
 closed-small : (method : Method) (lots : ℕ) (z : ℤ) → Small (closed method lots (close_of z))
 closed-small method lots z = by (view z)
   where
@@ -58,9 +52,9 @@ closed-small method lots z = by (view z)
     by (price m e h c) = rw c h
     by (no-price c) = rw c tt
 
-answered-small : (step lots : ℕ) (m : Mean) → Small (answered step lots m)
-answered-small step lots (Of method n d) = closed-small method lots (round n d step)
-answered-small step lots Missing = tt
+answered-small : (step lots : ℕ) (m : Option Mean) → Small (answered step lots m)
+answered-small step lots (Some m) = closed-small m.method lots (round m.sum m.weight step)
+answered-small step lots None = tt
 
 row_small : (day : Figures) (closes : List ℕ) (c : ℕ) → Small (row_answer day closes c)
 unfolding row_answer
@@ -74,15 +68,8 @@ answer-small day k c h = by k.stopped (named day.third c)
     by false true = h
     by false false = row_small day k.closes c
 
-set-small : (l : List ℕ) (i m : ℕ) → m ≤ 99999999 → ((c : ℕ) → get_or l c 0 ≤ 99999999) → (c : ℕ) → get_or (set l i m) c 0 ≤ 99999999
-set-small [] i m h k c = k c
-set-small (x ∷ l) zero m h k zero = h
-set-small (x ∷ l) zero m h k (suc c) = k (suc c)
-set-small (x ∷ l) (suc i) m h k zero = k zero
-set-small (x ∷ l) (suc i) m h k (suc c) = set-small l i m h (λ j. k (suc j)) c
-
 closes-bounded : (closes : List ℕ) (c : ℕ) (a : Told) → Bounded closes → Small a → Bounded (closes_with closes c a)
-closes-bounded closes c (close method m lots) b s = record { small = set-small closes c m s b.small }
+closes-bounded closes c (close method m lots) b s = bounded-set b c m s
 closes-bounded closes c (refused number lots) b s = b
 
 -- what is known of a contract, 3M's answer too, has only closes
@@ -112,30 +99,6 @@ known-bounded day c = (known_small day c).closes
 
 -- ---- one step of the code
 
--- the close of an answer, 0 where it has none
-abbrev pub close_in : Told → ℕ
-close_in (close method m lots) = m
-close_in (refused number lots) = 0
-
--- a contract that is still to be priced has no close
-with-unset : (closes : List ℕ) (c : ℕ) (a : Told) (j : ℕ) → c < j → get_or closes j 0 ≡ 0 → get_or (closes_with closes c a) j 0 ≡ 0
-with-unset closes c (close method m lots) j h e = get_or-set_other closes c j m 0 (λ f. omega arith) ∙ e
-with-unset closes c (refused number lots) j h e = e
-
-unset : (day : Figures) (c j : ℕ) → c ≤ j → get_or (known_at day c).closes j 0 ≡ 0
-unfolding known_at
-unset day zero j h = none-set 6 j
-unset day (suc c) j h = with-unset (known_at day c).closes c (answer_by day (known_at day c) c) j (omega arith) (unset day c j (omega arith))
-
--- so that the close is what is learnt at its place, 0 where there is none
-with-is : (closes : List ℕ) (c : ℕ) (a : Told) → get_or closes c 0 ≡ 0 → set closes c (close_in a) ≡ closes_with closes c a
-with-is closes c (close method m lots) e = refl
-with-is closes c (refused number lots) e = rw e at (set-get_or closes c 0)
-
--- what is known, as the code has it
-abbrev pub known_by : List ℕ → Bool → Told → Known
-known_by closes stopped three = record { closes = closes; stopped = stopped; three = three }
-
 -- an array of six answers by name; what its `get_or` gives past the end is never asked
 abbrev pub at : List Answer → ℕ → Answer
 at six c = get_or six c (Priced Vwap 0 0)
@@ -148,46 +111,35 @@ unfolding closings_of
 closings-are day p q r s t u = cc
 
 -- before contract c: what is known, and the answers so far
-pub record Stands (day : Figures) (closes : List ℕ) (stopped : Bool) (six : List Answer) (c : ℕ) : Type 0 where
-  pub within : c ≤ 6
-  pub closes-long : length closes ≡ 6
+pub record Stands (day : Figures) (k : code.Known) (six : List Answer) (c : ℕ) : Type 0 where
   pub six-long : length six ≡ 6
-  pub known : known_by closes stopped (answer_says (at six 0)) ≡ known_at day c
+  pub known : known_says k ≡ known_at day c
   pub told : (j : ℕ) (d : Answer) → j < c → answer_says (get_or six j d) ≡ answer_of day j
 
--- 3M's answer, where that of contract c is written
-three-with : (six : List Answer) (c : ℕ) (a : Answer) → length six ≡ 6 → answer_says (at (set six c a) 0) ≡ cond (eqb c 3M) (answer_says a) (answer_says (at six 0))
-three-with [] c a h = absurd (omega arith)
-three-with (x ∷ l) zero a h = refl
-three-with (x ∷ l) (suc c) a h = rw (ne_eqb (suc c) 3M (λ e. omega arith)) refl
-
-pub stands-first : (day : Figures) (six : List Answer) → length six ≡ 6 → answer_says (at six 0) ≡ refused 15 0 → Stands day nothing_known.closes false six 0
+pub stands-first : (day : Figures) {known : code.Known} (six : List Answer) → length six ≡ 6 → known_says known ≡ nothing_known → Stands day known six 0
 unfolding known_at
-stands-first day six e n = record { within = omega arith; closes-long = refl; six-long = e; known = ap (known_by nothing_known.closes false) n; told = λ j d h. absurd (omega arith) }
+stands-first day six e n = record { six-long = e; known = n; told = λ j d h. absurd (omega arith) }
 
-module _ (day : Figures) {closes : List ℕ} {stopped : Bool} {six : List Answer} {c : ℕ} (s : Stands day closes stopped six c) where
-  pub stands-bounded : Bounded closes
-  stands-bounded = rw (← ap (λ (k : Known). k.closes) s.known) at (known-bounded day c)
+module _ (day : Figures) {known : code.Known} {six : List Answer} {c : ℕ} (s : Stands day known six c) where
+  module _ (a : Answer) (e : answer_says a ≡ answer_by day (known_says known) c) where
+    answer : answer_says a ≡ answer_of day c
+    answer = e ∙ ap (λ (k : Known). answer_by day k c) s.known
 
-  pub stands-next : (a : Answer) {m : ℕ} {t : Bool} → c < 6 → answer_says a ≡ answer_by day (known_by closes stopped (answer_says (at six 0))) c → m ≡ close_in (answer_says a) → t ≡ is_refused (answer_says a) → Stands day (set closes c m) t (set six c a) (c + 1)
-  unfolding known_at
-  stands-next a {m} {t} h e f g = record {
-    within = omega arith;
-    closes-long = length-set closes c m ∙ s.closes-long;
-    six-long = length-set six c a ∙ s.six-long;
-    known = rw (f, g, add-one c, with-is closes c (answer_says a) none, three-with six c a s.six-long) (ap (λ (k : Known). learnt k c (answer_says a)) s.known ∙ ap (learnt (known_at day c) c) answer);
-    told = λ j d l. by_place j d (dec_lt j c) l;
-  }
-    where
-      none : get_or closes c 0 ≡ 0
-      none = ap (λ (k : Known). get_or k.closes c 0) s.known ∙ unset day c c (omega arith)
+    -- the close of the answer is a close
+    pub stands-small : Small (answer_says a)
+    stands-small = rw answer (answer-small day (known_at day c) c (known_small day c).three)
 
-      answer : answer_says a ≡ answer_of day c
-      answer = e ∙ ap (λ (k : Known). answer_by day k c) s.known
-
-      by_place : (j : ℕ) (d : Answer) → Dec (j < c) → j < c + 1 → answer_says (get_or (set six c a) j d) ≡ answer_of day j
-      by_place j d (yes l) k = ap answer_says (get_or-set_other six c j a d (λ f. omega arith)) ∙ s.told j d l
-      by_place j d (no l) k = let same : j ≡ c = omega arith in rw same (ap answer_says (get_or-set_same six c a d (omega (arith, s.six-long))) ∙ answer)
+    pub stands-next : {next : code.Known} → c < 6 → known_says next ≡ learnt (known_says known) c (answer_says a) → Stands day next (set six c a) (c + 1)
+    unfolding known_at
+    stands-next {next} h f = record {
+      six-long = length-set six c a ∙ s.six-long;
+      known = rw (add-one c) (f ∙ ap (λ (k : Known). learnt k c (answer_says a)) s.known ∙ ap (learnt (known_at day c) c) answer);
+      told = λ j d l. by_place j d (dec_lt j c) l;
+    }
+      where
+        by_place : (j : ℕ) (d : Answer) → Dec (j < c) → j < c + 1 → answer_says (get_or (set six c a) j d) ≡ answer_of day j
+        by_place j d (yes l) k = ap answer_says (get_or-set_other six c j a d (λ f. omega arith)) ∙ s.told j d l
+        by_place j d (no l) k = let same : j ≡ c = omega arith in rw same (ap answer_says (get_or-set_same six c a d (omega (arith, s.six-long))) ∙ answer)
 
   pub stands-all : 6 ≤ c → closings_say (by_name six) ≡ closings_of day
   stands-all h = closings-are day (s.told 0 _ (omega arith)) (s.told 1 _ (omega arith)) (s.told 2 _ (omega arith)) (s.told 3 _ (omega arith)) (s.told 4 _ (omega arith)) (s.told 5 _ (omega arith))
