@@ -4,7 +4,7 @@
 --     shift      the law, for each contract up to which neither has a 14
 -- Assumes nothing.
 use Prim.Native.Nat.{ℕ, zero, suc, ◌+◌, ◌-◌, ◌*◌, ◌≤◌, ◌<◌}
-use Rattle.std.specs.Prelude.{◌≡◌, Bool, true, false, not, cond, List, T, leb, eqb, ℤ, ◌*ℤ◌, get_or, set, length}
+use Rattle.std.specs.Prelude.{◌≡◌, Bool, true, false, not, cond, List, T, leb, eqb, ℤ, ◌*ℤ◌, get_or, set, length, Option, Some, None}
 use Rattle.std.proofs.Math.Path.{refl, ap, ap₂}
 use Rattle.std.proofs.Common.{sym, ◌∙◌, subst, arith, leb-true, ne_eqb, length-set, get_or-set_same, get_or-set_other}
 use Rattle.std.proofs.Math.Nat.{add-mul}
@@ -25,8 +25,7 @@ use Rattle.trades.specs.Trades.{lots_in, value_in}
 use Rattle.twap.specs.Span.{Span, missing, sum}
 use Rattle.price_rules.specs.declared.Method.{Method}
 use Rattle.price_rules.specs.declared.Mean.{Mean}
-use Rattle.price_rules.specs.declared.Mean.TheVariants.{Of, Missing}
-use Rattle.price_rules.specs.Closing.{Figures, applied, less_of, base_of, implied_by, deals_sum, vwap_sum, vwap_lots, twap_by, lots_of, mean_of, Told, closed, answered, row_answer, Known, answer_by, learnt, known_at, answer_of}
+use Rattle.price_rules.specs.Closing.{Figures, applied, less_of, base_of, implied_by, deals_sum, vwap_sum, vwap_lots, twap_by, lots_of, mean, mean_of, Told, closed, answered, row_answer, Known, answer_by, learnt, known_at, answer_of}
 use Rattle.price_rules.specs.laws.Adding.{deals-are}
 use Rattle.six_answers.specs.laws.State.{View, price, no-price, view}
 use Rattle.laws.specs.Demand.{Moved, lifts, stays, InRange}
@@ -83,11 +82,11 @@ data SpanFed (δ : ℤ) (leg : Leg) : Span → Span → Type 0 where
   none-fed : SpanFed δ leg missing missing
   sum-fed : {s s' : ℤ} → Fed δ window_length leg s s' → SpanFed δ leg (sum s) (sum s')
 
-data MovedMean (δ : ℤ) : Mean → Mean → Type 0 where
-  mean : {method : Method} {n n' : ℤ} {w : ℕ} → 0 < w → n' ≡ n +ℤ pos w *ℤ δ → MovedMean δ (Of method n w) (Of method n' w)
-  no-mean : MovedMean δ Missing Missing
+data MovedMean (δ : ℤ) : Option Mean → Option Mean → Type 0 where
+  mean-fed : {method : Method} {n n' : ℤ} {w : ℕ} → 0 < w → n' ≡ n +ℤ pos w *ℤ δ → MovedMean δ (Some (mean method n w)) (Some (mean method n' w))
+  no-mean : MovedMean δ None None
 
-cond-moved : {δ : ℤ} {a a' b b' : Mean} (t : Bool) → (t ≡ true → MovedMean δ a a') → MovedMean δ b b' → MovedMean δ (cond t a b) (cond t a' b')
+cond-moved : {δ : ℤ} {a a' b b' : Option Mean} (t : Bool) → (t ≡ true → MovedMean δ a a') → MovedMean δ b b' → MovedMean δ (cond t a b) (cond t a' b')
 cond-moved true f g = f refl
 cond-moved false f g = g
 
@@ -147,13 +146,13 @@ module _ (δ : ℤ) {d d' : Figures} (up_by : Lifted δ d d') (c : ℕ) (k k' : 
 
   span-moved : (i : ℕ) {s s' : Span} → Earlier c i (leg_of i) → SpanFed δ (leg_of i) s s' → MovedMean δ (twap_by d.marks k i s) (twap_by d'.marks k' i s')
   span-moved i f none-fed = no-mean
-  span-moved i f (sum-fed {s} {s'} e) = mean {w = window_length} (omega (arith, window-length)) (ap (λ (m : ℕ). implied_by m k' i window_length s') up_by.marks ∙ implied-moved δ c k k' known d.marks i window_length s s' f e)
+  span-moved i f (sum-fed {s} {s'} e) = mean-fed {w = window_length} (omega (arith, window-length)) (ap (λ (m : ℕ). implied_by m k' i window_length s') up_by.marks ∙ implied-moved δ c k k' known d.marks i window_length s s' f e)
 
   mean-moved : (r : Contract) → Ruled c r → MovedMean δ (mean_of d k r) (mean_of d' k' r)
   mean-moved r rule =
       rw (lots-moved r.first (r.past - r.first))
       (cond-moved (leb minimum_lots (lots_of d r))
-      (λ h. mean {w = lots_of d r} (omega (arith, leb-true minimum_lots (lots_of d r) h)) (sum_moved r.first (r.past - r.first) (λ j h. rule.legs (r.first + j) (omega arith) (omega arith))))
+      (λ h. mean-fed {w = lots_of d r} (omega (arith, leb-true minimum_lots (lots_of d r) h)) (sum_moved r.first (r.past - r.first) (λ j h. rule.legs (r.first + j) (omega arith) (omega arith))))
       (span-moved r.twap (rule.legs r.twap rule.order rule.among) (span-fed r.twap (rule.legs r.twap rule.order rule.among))))
 
 -- the step divides δ
@@ -170,8 +169,8 @@ closed-moved {δ} method lots z z' e a b = by (view z) (view z')
     by (price m p h q) (no-price q') = absurd ((rw q' at b) refl)
     by (no-price q) w = absurd ((rw q at a) refl)
 
-answered-moved : {δ : ℤ} {m m' : Mean} (u lots : ℕ) → Divides u δ → MovedMean δ m m' → InRange (answered u lots m) → InRange (answered u lots m') → Moved δ (answered u lots m) (answered u lots m')
-answered-moved {δ} u lots v (mean {method} {n} {n'} {w} h e) a b = closed-moved method lots (round n w u) (round n' w u) same a b
+answered-moved : {δ : ℤ} {m m' : Option Mean} (u lots : ℕ) → Divides u δ → MovedMean δ m m' → InRange (answered u lots m) → InRange (answered u lots m') → Moved δ (answered u lots m) (answered u lots m')
+answered-moved {δ} u lots v (mean-fed {method} {n} {n'} {w} h e) a b = closed-moved method lots (round n w u) (round n' w u) same a b
   where
     same : round n' w u ≡ round n w u +ℤ δ
     same = rw (e, v.product) (round-shift n w u h v.positive v.quotient)
@@ -200,7 +199,7 @@ row_moved δ {d} {d'} up_by v c k k' known h a b =
     let step : step_of d'.metal c ≡ step_of d.metal c = ap (λ (m : ℕ). step_of m c) up_by.metal in
     answered-at step lots (step-divides d.metal c h v) (mean-moved δ up_by c k k' known r (ruled c h)) a b
   where
-    answered-at : {m m' : Mean} {u u' lots lots' : ℕ} → u' ≡ u → lots' ≡ lots → Divides u δ → MovedMean δ m m' → InRange (answered u lots m) → InRange (answered u' lots' m') → Moved δ (answered u lots m) (answered u' lots' m')
+    answered-at : {m m' : Option Mean} {u u' lots lots' : ℕ} → u' ≡ u → lots' ≡ lots → Divides u δ → MovedMean δ m m' → InRange (answered u lots m) → InRange (answered u' lots' m') → Moved δ (answered u lots m) (answered u' lots' m')
     answered-at {m} {m'} {u} {u'} {lots} {lots'} e f v n a b = rw (e, f) (answered-moved u lots v n a (rw (e, f) at b))
 
 -- ---- the contracts, in pricing order

@@ -4,7 +4,7 @@
 --     turn       a turned spread gives the same
 -- Assumes nothing.
 use Prim.Native.Nat.{ℕ, zero, suc, ◌+◌, ◌-◌, ◌*◌, ◌<◌}
-use Rattle.std.specs.Prelude.{◌≡◌, Bool, true, false, not, cond, List, ℤ, pos, neg_ℤ}
+use Rattle.std.specs.Prelude.{◌≡◌, Bool, true, false, not, cond, List, ℤ, pos, neg_ℤ, Some}
 use Rattle.std.proofs.Math.Path.{refl, ap, ap₂}
 use Rattle.std.proofs.Common.{◌∙◌, arith}
 use Rattle.std.proofs.Math.Decide.{ℕ_discrete}
@@ -15,9 +15,8 @@ use Rattle.market.specs.Market.{leg_of, contract_of, marked, named, window_lengt
 use Rattle.market.specs.laws.Rules.{Earlier, priced_of, leg-earlier}
 use Rattle.trades.specs.Trades.{lots_in, value_in}
 use Rattle.twap.specs.Span.{Span, missing, sum}
-use Rattle.price_rules.specs.declared.Mean.TheVariants.{Of}
 use Rattle.price_rules.specs.declared.Method.TheVariants.{Twap}
-use Rattle.price_rules.specs.Closing.{Figures, applied, less_of, base_of, implied_by, deals_sum, vwap_sum, vwap_lots, twap_by, Told, refused, row_answer, Known, answer_by, learnt, known_at, answer_of, closings_of}
+use Rattle.price_rules.specs.Closing.{Figures, applied, less_of, base_of, implied_by, deals_sum, vwap_sum, vwap_lots, mean, twap_by, Told, refused, row_answer, Known, answer_by, learnt, known_at, answer_of, closings_of}
 use Rattle.price_rules.specs.laws.Adding.{deals-are}
 
 -- ---- the answers go only by what each instrument gives
@@ -98,7 +97,7 @@ module _ (k : ℕ) (small : k < 11) {d d' : Figures} (t : Turned (suc k) d d') w
 
   twap-turned : (closes : List ℕ) (s : Span) → twap_by d'.marks closes (suc k) (turned_span s) ≡ twap_by d.marks closes (suc k) s
   twap-turned closes missing = refl
-  twap-turned closes (sum s) = ap (λ (z : ℤ). Of Twap z window_length) (implied-turned closes window_length s)
+  twap-turned closes (sum s) = ap (λ (z : ℤ). Some (mean Twap z window_length)) (implied-turned closes window_length s)
 
   turned-gives : Gives d d' (suc k)
   turned-gives = record {
@@ -114,7 +113,7 @@ module _ (k : ℕ) (small : k < 11) {d d' : Figures} (t : Turned (suc k) d d') w
 
   twap-kept : (j : ℕ) → (j ≡ suc k → ⊥) → (closes : List ℕ) (s : Span) → twap_by d'.marks closes j s ≡ twap_by d.marks closes j s
   twap-kept j h closes missing = refl
-  twap-kept j h closes (sum s) = ap (λ (z : ℤ). Of Twap z window_length) (implied-kept j h closes window_length s)
+  twap-kept j h closes (sum s) = ap (λ (z : ℤ). Some (mean Twap z window_length)) (implied-kept j h closes window_length s)
 
   kept_gives : (j : ℕ) → (j ≡ suc k → ⊥) → Gives d d' j
   kept_gives j h = record {
