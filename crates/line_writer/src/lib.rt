@@ -85,18 +85,28 @@ impl<'a> Line<'a> {
         }
     }
 
+    // A name, byte by byte: a copy from a table to a lent buffer asks a host for `memmove`.
+    fn name(&mut self, name: &[u8])
+        ensures buffer { self.new.buf.ghost_name ≡ self.old.buf.ghost_name }
+        ensures puts { Puts self.old.buf.now self.old.at name.now self.new.at self.new.buf.now }
+    {
+        for &byte in name {
+            self.put(&[byte]);
+        }
+    }
+
     fn metal(&mut self, metal: u8)
         ensures buffer { self.new.buf.ghost_name ≡ self.old.buf.ghost_name }
         ensures puts { Puts self.old.buf.now self.old.at (metal_name metal) self.new.at self.new.buf.now }
     {
-        self.put(metal_name(metal));
+        self.name(metal_name(metal));
     }
 
     fn instrument(&mut self, instrument: u8)
         ensures buffer { self.new.buf.ghost_name ≡ self.old.buf.ghost_name }
         ensures puts { Puts self.old.buf.now self.old.at (instrument_name instrument) self.new.at self.new.buf.now }
     {
-        self.put(instrument_name(instrument));
+        self.name(instrument_name(instrument));
     }
 
     // What a header's form puts behind its marks: a long one's third value.
