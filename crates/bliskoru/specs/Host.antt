@@ -11,7 +11,6 @@ use Rattle.sheet.specs.Judgement.{Verdict, accepts, refuses-at}
 use Rattle.price_rules.specs.declared.Method.{Method}
 use Rattle.price_rules.specs.declared.Method.TheVariants.{Vwap, Twap}
 use Rattle.price_rules.specs.Closing.{Told, close, refused, Answers, six, none-priced}
-use Rattle.filled_buffer.specs.declared.Filled.{Filled}
 
 -- ---- the list: its length; no list has length 0
 
@@ -58,17 +57,17 @@ answers_rows old (none-priced number at) = old
 
 -- ---- what was put at the start of a buffer: the number, and the length or the place that goes with it
 
-abbrev pub filled_number : Filled → ℕ
-filled_number (Filled.Whole length) = 0
-filled_number (Filled.Refused number place) = number
+abbrev pub filled_number : Said (Unit {0}) → ℕ
+filled_number (gives given length) = 0
+filled_number (refuses number place) = number
 
-abbrev pub filled_length : ℕ → Filled → ℕ
-filled_length old (Filled.Whole length) = length
-filled_length old (Filled.Refused number place) = old
+abbrev pub filled_length : ℕ → Said (Unit {0}) → ℕ
+filled_length old (gives given length) = length
+filled_length old (refuses number place) = old
 
-abbrev pub filled_place : ℕ → Filled → ℕ
-filled_place old (Filled.Whole length) = old
-filled_place old (Filled.Refused number place) = place
+abbrev pub filled_place : ℕ → Said (Unit {0}) → ℕ
+filled_place old (gives given length) = old
+filled_place old (refuses number place) = place
 
 -- ---- one field: its tag, its values in the order of its body, and zeros up to six numbers; a short header has no third value, and so a zero there
 

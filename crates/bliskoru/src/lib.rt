@@ -3,10 +3,11 @@
 // handed back, and 0 says yes.
 #![tactic(auto)]
 
-ghost use Rattle.std.specs.Prelude.{◌≡◌, ◌∷◌, [], pos};
+ghost use Rattle.std.specs.Prelude.{◌≡◌, map};
 ghost use Rattle.std.proofs.Math.ListN as ListN;
 ghost use Rattle.text.specs.Over.{put_place, put_buffer};
 ghost use Rattle.field.specs.Reading.{read_field};
+ghost use Rattle.field.specs.Said.{fault_number, written_says};
 ghost use Rattle.field.specs.Writing.{written, buffer_after};
 ghost use Rattle.field.specs.declared.Field.TheVariants as F;
 ghost use Rattle.field.specs.declared.Form.TheVariants as Form;
@@ -18,18 +19,16 @@ ghost use Rattle.filled_buffer.specs.Filling.{buffer_with, filled};
 ghost use Rattle.header_mover.specs.Moving.{to_new, to_old};
 ghost use Rattle.tape.specs.Tape.{tape_to_sheet, sheet_to_tape};
 ghost use Rattle.bliskoru.specs.Host.{filled_number, filled_length, filled_place, length_or0, verdict_number, verdict_byte, method_number, row_of, rows_of, answers_number, answers_byte, answers_rows, values_of, said_number, said_next, read_values, price_of};
-ghost use Rattle.bliskoru.specs.laws.Host.{row_says};
 
 use field::judge::third_of;
 use field::layout::form_tag;
-use field::{Field, Form, Price, Read, Written};
+use field::{Field, Form, Price, Refusal};
 use field_reader::read_field;
 use field_writer::write_field;
-use filled_buffer::Filled;
 use header_mover::{to_new_header, to_old_header};
 use list::closing_list;
-use price_rules::{Answer, Closed, Method, SixAnswers};
-use sheet::{Judged, judge_sheet};
+use price_rules::{Answer, Method, Priced, SixAnswers, Unpriced};
+use sheet::judge_sheet;
 use six_answers::closings;
 use tape_reader::tape_to_sheet;
 use tape_writer::sheet_to_tape;
@@ -43,6 +42,15 @@ pub extern "C" fn bliskoru_list(sheet: &[u8], out: &mut [u8]) -> usize
     closing_list(sheet, out).unwrap_or(0)
 }
 
+// A refusal's number, and its place in `at`.
+fn refuse(refusal: Refusal, at: &mut usize) -> u8
+    ensures value { result ≡ fault_number refusal.fault }
+    ensures at_after { at.new ≡ refusal.at }
+{
+    *at = refusal.at;
+    refusal.fault.into()
+}
+
 // 0 where the sheet is accepted; else the refusal's number, and its byte in `at`.
 #[unsafe(no_mangle)]
 pub extern "C" fn bliskoru_judge(sheet: &[u8], at: &mut usize) -> u8
@@ -50,22 +58,12 @@ pub extern "C" fn bliskoru_judge(sheet: &[u8], at: &mut usize) -> u8
     ensures at_after { at.new ≡ verdict_byte at.old (judge_sheet sheet.now) }
 {
     match judge_sheet(sheet) {
-        Judged::Accepted(_) => 0,
-        Judged::Refused(number, byte) => {
-            *at = byte;
-            number
-        }
+        Ok(_) => 0,
+        Err(refusal) => refuse(refusal, at),
     }
 }
 
-// A contract's answer as numbers: method or refusal, close, lots.
-#[derive(Clone, Copy)]
-pub struct Row {
-    pub told: u64,
-    pub close: u64,
-    pub lots: u64,
-}
-
+// The numbers of the methods are the C header's.
 fn method_number(method: Method) -> u64
     ensures { result ≡ method_number method }
 {
@@ -75,55 +73,32 @@ fn method_number(method: Method) -> u64
     }
 }
 
-fn row_of(answer: Answer) -> Row
-    ensures { row_says result ≡ row_of (answer_says answer) }
+// A contract's answer as numbers: method or refusal, close, lots.
+fn row_of(answer: Answer) -> [u64; 3]
+    ensures { result ≡ row_of (answer_says answer) }
 {
     match answer {
-        Answer::Priced {
+        Ok(Priced {
             method,
             close,
             lots,
-        } => Row {
-            told: method_number(method),
-            close: close as u64,
-            lots,
-        },
-        Answer::NoReference(lots) => Row {
-            told: 13,
-            close: 0,
-            lots,
-        },
-        Answer::OutOfRange(lots) => Row {
-            told: 14,
-            close: 0,
-            lots,
-        },
-        Answer::NotReached => Row {
-            told: 15,
-            close: 0,
-            lots: 0,
-        },
+        }) => [method_number(method), close.into(), lots],
+        Err(Unpriced::NoReference(lots)) => [13, 0, lots],
+        Err(Unpriced::OutOfRange(lots)) => [14, 0, lots],
+        Err(Unpriced::NotReached) => [15, 0, 0],
     }
 }
 
-fn rows_of(six: SixAnswers) -> [u64; 18]
-    ensures { result ≡ rows_of (closings_say six) }
+fn rows_of(six: SixAnswers) -> [[u64; 3]; 6]
+    ensures { result ≡ map row_of (closings_say six) }
 {
-    let three = six.three;
-    let m3 = six.m3;
-    let m2 = six.m2;
-    let m4 = six.m4;
-    let m1 = six.m1;
-    let cash = six.cash;
-    let a = row_of(three);
-    let b = row_of(m3);
-    let c = row_of(m2);
-    let d = row_of(m4);
-    let e = row_of(m1);
-    let f = row_of(cash);
     [
-        a.told, a.close, a.lots, b.told, b.close, b.lots, c.told, c.close, c.lots, d.told, d.close,
-        d.lots, e.told, e.close, e.lots, f.told, f.close, f.lots,
+        row_of(six.three),
+        row_of(six.m3),
+        row_of(six.m2),
+        row_of(six.m4),
+        row_of(six.m1),
+        row_of(six.cash),
     ]
 }
 
@@ -135,33 +110,26 @@ pub extern "C" fn bliskoru_answers(sheet: &[u8], answers: &mut [u64; 18], at: &m
     ensures at_after { at.new ≡ answers_byte at.old (answers_of sheet.now) }
 {
     match closings(sheet) {
-        Closed::Six(_, six) => {
-            let rows = rows_of(six);
-            *answers = rows;
+        Ok((_, six)) => {
+            answers.copy_from_slice(rows_of(six).as_flattened());
             0
         }
-        Closed::Refused(number, byte) => {
-            *at = byte;
-            number
-        }
+        Err(refusal) => refuse(refusal, at),
     }
 }
 
 // What was put, by its length; or the refusal's number, and its place.
-fn hand_over(answer: Filled, length: &mut usize, at: &mut usize) -> u8
-    ensures value { result ≡ filled_number answer }
-    ensures length_after { length.new ≡ filled_length length.old answer }
-    ensures at_after { at.new ≡ filled_place at.old answer }
+fn hand_over(answer: Result<usize, Refusal>, length: &mut usize, at: &mut usize) -> u8
+    ensures value { result ≡ filled_number (written_says answer) }
+    ensures length_after { length.new ≡ filled_length length.old (written_says answer) }
+    ensures at_after { at.new ≡ filled_place at.old (written_says answer) }
 {
     match answer {
-        Filled::Whole(n) => {
+        Ok(n) => {
             *length = n;
             0
         }
-        Filled::Refused(number, place) => {
-            *at = place;
-            number
-        }
+        Err(refusal) => refuse(refusal, at),
     }
 }
 
@@ -229,85 +197,50 @@ pub extern "C" fn bliskoru_to_old_header(
     hand_over(to_old_header(sheet, out), length, at)
 }
 
-// A value of a field as a number of 64 bits.
-#[derive(Clone, Copy)]
-pub struct Value {
-    pub number: i64,
-}
-
-fn whole(n: u32) -> Value
-    ensures { result.number ≡ pos n }
-{
-    Value { number: n as i64 }
-}
-
-fn cents(price: Price) -> Value
-    ensures { result.number ≡ price.cents }
-{
-    let n = price.cents;
-    Value { number: n as i64 }
-}
-
-// Nothing stands there.
-fn zero() -> Value
-    ensures { result.number ≡ pos 0 }
-{
-    Value { number: 0 }
-}
-
-fn listed(tag: u32, a: Value, b: Value, c: Value, d: Value, e: Value) -> [i64; 6]
-    ensures { result ≡ pos tag ∷ a.number ∷ b.number ∷ c.number ∷ d.number ∷ e.number ∷ [] }
-{
-    [tag as i64, a.number, b.number, c.number, d.number, e.number]
-}
-
 // A field's tag and values, in the order of its body; zeros behind them.
 fn values_of(field: Field) -> [i64; 6]
     ensures { result ≡ values_of field }
 {
-    let none = zero();
     match field {
-        Field::Header { metal, marks, form } => {
-            listed(
-                form_tag(form) as u32,
-                whole(metal as u32),
-                whole(marks as u32),
-                whole(third_of(form) as u32),
-                none,
-                none,
-            )
-        }
+        Field::Header { metal, marks, form } => [
+            form_tag(form).into(),
+            metal.into(),
+            marks.into(),
+            third_of(form).into(),
+            0,
+            0,
+        ],
         Field::PreviousClose { instrument, price } => {
-            listed(2, whole(instrument as u32), cents(price), none, none, none)
+            [2, instrument.into(), price.cents.into(), 0, 0, 0]
         }
         Field::Trade {
             time,
             instrument,
             price,
             lots,
-        } => listed(
+        } => [
             3,
-            whole(time),
-            whole(instrument as u32),
-            cents(price),
-            whole(lots as u32),
-            none,
-        ),
+            time.into(),
+            instrument.into(),
+            price.cents.into(),
+            lots.into(),
+            0,
+        ],
         Field::Quote {
             time,
             instrument,
             sides,
             bid,
             offer,
-        } => listed(
+        } => [
             4,
-            whole(time),
-            whole(instrument as u32),
-            whole(sides as u32),
-            cents(bid),
-            cents(offer),
-        ),
-        Field::End { count } => listed(5, whole(count), none, none, none, none),
+            time.into(),
+            instrument.into(),
+            sides.into(),
+            bid.cents.into(),
+            offer.cents.into(),
+        ],
+        Field::End { count } => [5, count.into(), 0, 0, 0, 0],
     }
 }
 
@@ -324,13 +257,12 @@ pub extern "C" fn bliskoru_read(
     ensures next_after { next.new ≡ said_next next.old (read_field sheet.now at) }
 {
     match read_field(sheet, at) {
-        Read::Field(field, behind) => {
-            let told = values_of(field);
-            *values = told;
+        Ok((field, behind)) => {
+            *values = values_of(field);
             *next = behind;
             0
         }
-        Read::Refused(number, _) => number,
+        Err(refusal) => refusal.fault.into(),
     }
 }
 
@@ -340,11 +272,11 @@ fn write(buffer: &mut [u8], at: usize, field: Field, next: &mut usize) -> u8
     ensures next_after { next.new ≡ said_next next.old (written buffer.old at field) }
 {
     match write_field(buffer, at, field) {
-        Written::Next(behind) => {
+        Ok(behind) => {
             *next = behind;
             0
         }
-        Written::Refused(number, _) => number,
+        Err(refusal) => refusal.fault.into(),
     }
 }
 
