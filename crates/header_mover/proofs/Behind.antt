@@ -1,20 +1,12 @@
 -- What a loop that puts bytes one by one behind a place keeps: the start with the bytes so far, and the rest as it was. Assumes nothing.
-use Rattle.std.proofs.Common.{ℕ, ◌+◌, ◌≤◌, ◌<◌, ◌≡◌, List, [], ◌∷◌, ◌++◌, length, take, drop, get_or, sym, ap, ◌∙◌, refl, ap₂, arith, append_assoc, append-nil}
+use Rattle.std.proofs.Common.{ℕ, ◌+◌, ◌≤◌, ◌<◌, ◌≡◌, List, [], ◌∷◌, ◌++◌, length, take, drop, get_or, sym, ap, ◌∙◌, arith, append_assoc}
 use Rattle.std.proofs.Math.ListN.{set}
-use Rattle.std.proofs.lemmas.List.{take_more, take_more_set, drop-set-lt, take-append-drop}
+use Rattle.std.proofs.lemmas.List.{take_more, take_more_set, drop-set-lt}
 use Rattle.std.proofs.lemmas.List.{drop-drop}
-use Rattle.std.proofs.Math.Seq.{take-length}
-use Rattle.text.specs.Over.{over}
 
 pub record Reached (b o s : List ℕ) (at i : ℕ) : Type 0 where
   pub start : take (at + i) o ≡ take at b ++ take i s
   pub rest : drop (at + i) o ≡ drop (at + i) b
-
-pub at-none : (b s : List ℕ) (at : ℕ) → Reached b b s at 0
-at-none b s at = record { start = ap (λ (n : ℕ). take n b) (at-zero at) ∙ sym (append-nil (take at b)); rest = refl }
-  where
-    at-zero : (n : ℕ) → n + 0 ≡ n
-    at-zero n = omega arith
 
 pub one-more : (b o s : List ℕ) (at i : ℕ) → length o ≡ length b → at + length s ≤ length b → i < length s → Reached b o s at i → Reached b (set o (at + i) (get_or s i 0)) s at (i + 1)
 one-more b o s at i same room below r =
@@ -27,11 +19,3 @@ one-more b o s at i same room below r =
       start = rw e (take_more_set o n x low ∙ ap (λ (l : List ℕ). l ++ x ∷ []) r.start ∙ append_assoc (take at b) (take i s) (x ∷ []) ∙ ap (λ (l : List ℕ). take at b ++ l) (sym more));
       rest = rw e (drop-set-lt (n + 1) o n x (omega arith) ∙ sym (drop-drop 1 n o) ∙ ap (drop 1) r.rest ∙ drop-drop 1 n b);
     }
-
-pub all-put : (b o s : List ℕ) (at i : ℕ) → length s ≤ i → i ≤ length s → Reached b o s at i → o ≡ over b at s
-all-put b o s at i end top r =
-    let e : i ≡ length s = omega arith in
-    sym (take-append-drop (at + i) o)
-    ∙ ap₂ ◌++◌ r.start r.rest
-    ∙ ap (λ (n : ℕ). take at b ++ take n s ++ drop (at + n) b) e
-    ∙ ap (λ (l : List ℕ). take at b ++ l ++ drop (at + length s) b) (take-length s)

@@ -56,8 +56,8 @@ fn put_behind(out: &mut [u8], at: usize, s: &[u8])
     requires { at + length s.now ≤ length out.old }
     ensures { out.new ≡ put_buffer out.old at s.now }
 {
-    for i in 0..s.len() {
-        out[at + i] = s[i];
+    for (i, &byte) in s.iter().enumerate() {
+        out[at + i] = byte;
     }
 }
 
