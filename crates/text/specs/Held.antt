@@ -1,5 +1,6 @@
 -- A text that is put together piece by piece: what it holds, or that a piece did not fit.
 use Rattle.std.specs.Prelude.{ℕ, ◌≡◌, cond, List, [], ◌++◌, leb, length, Option, Some, None}
+use Rattle.text.specs.Over.{put_place, put_buffer}
 
 -- the bytes, or that there were more than 512
 pub data Held : Type 0 where
@@ -33,3 +34,13 @@ added t s = cond (leb (length (t ++ s)) 512) (Some (t ++ s)) None
 pub record Added (t : List ℕ) (s : List ℕ) (r : Option (List ℕ)) : Type 0 where
   pub is : r ≡ added t s
   pub holds : held r ≡ Has t ⊕ s
+
+-- the place behind a whole text put into a buffer
+abbrev pub place_after : List ℕ → ℕ → Held → Option ℕ
+place_after b at (Has s) = put_place b at s
+place_after b at TooLong = None
+
+-- the buffer with it, or as it was
+abbrev pub buffer_after : List ℕ → ℕ → Held → List ℕ
+buffer_after b at (Has s) = put_buffer b at s
+buffer_after b at TooLong = b

@@ -8,6 +8,7 @@ use Rattle.numerals.specs.laws.Lacks.{lacks}
 use Rattle.numerals.specs.laws.Numerals.{clash}
 use Rattle.market.specs.laws.Table.{both, both_left, both_right, below, from_one}
 use Rattle.names.specs.Names.{metal_names, metal_name, instrument_names, instrument_name, same, number_of, metal_in, instrument_in}
+use Rattle.names.specs.laws.Names.{name-short, metal-length, instrument-length}
 
 -- ---- the same bytes
 
@@ -96,11 +97,15 @@ pub seek-instrument : (i : ℕ) → 0 ≤ i → instrument_name i ≡ get_or ins
 unfolding instrument_name
 seek-instrument i h = let z : i ≡ i - 0 = omega arith in ap (λ (k : ℕ). get_or instrument_names k []) z
 
+-- what a comparison with a name says of the table's name
+compared : (row name s held : List ℕ) (r : Bool) → row ≡ name → held ≡ row → r ≡ same held s → same name s ≡ r
+compared row name s held r e h q = sym (q ∙ ap (λ n. same n s) (h ∙ e))
+
 -- a turn of the code, for a table whose names are given by number
 module _ (names : List (List ℕ)) (from : ℕ) (name : ℕ → List ℕ) (row : (k : ℕ) → from ≤ k → name k ≡ get_or names (k - from) []) where
   module _ (s : List ℕ) (k : ℕ) (o : Seeking names from s k) (h : k < from + length names) (n : List ℕ) (r : Bool) (e : n ≡ name k) (q : r ≡ same n s) where
     asked : same (get_or names (k - from) []) s ≡ r
-    asked = sym (q ∙ ap (λ v. same v s) (e ∙ row k o.least))
+    asked = compared (name k) _ s n r (row k o.least) e q
 
     pub turn-found : r ≡ true → Some k ≡ number_of s names from
     turn-found d = seek_found names from s k o h (asked ∙ d)
@@ -178,4 +183,11 @@ metal-known m l h = known (metal_in (metal_name m)) (metal_name m) m (from_one (
 
 -- so the bytes of a known name have its number
 pub instrument-is : (i : ℕ) (s n : List ℕ) (r : Bool) → n ≡ instrument_name i → r ≡ same n s → r ≡ true → i ≤ 11 → Some i ≡ instrument_in s
-instrument-is i s n r h q e l = sym (instrument-known i l).found ∙ ap instrument_in (same-is (instrument_name i) s (ap (λ v. same v s) (sym h) ∙ sym q ∙ e))
+instrument-is i s n r h q e l = sym (instrument-known i l).found ∙ ap instrument_in (same-is (instrument_name i) s (compared (instrument_name i) _ s n r refl h q ∙ e))
+
+-- how long a name is
+pub instrument-short : (i : ℕ) (held : List ℕ) → held ≡ instrument_name i → length held ≤ 9
+instrument-short i held h = name-short (instrument_name i) held h (omega (arith, instrument-length i))
+
+pub metal-short : (m : ℕ) (held : List ℕ) → held ≡ metal_name m → length held ≤ 9
+metal-short m held h = name-short (metal_name m) held h (metal-length m)

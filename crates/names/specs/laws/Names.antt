@@ -1,7 +1,8 @@
 -- The numbers that have no name, how long a name can be, and that every metal of a right header has one. Assumes nothing.
-use Rattle.std.specs.Prelude.{ℕ, zero, suc, ◌≤◌, ◌≡◌, refl, Bool, true, List, [], ◌∷◌, T, leb, get_or, length}
-use Rattle.std.proofs.Common.{sym, arith, leb→le}
+use Rattle.std.specs.Prelude.{ℕ, zero, suc, ◌-◌, ◌≤◌, ◌≡◌, refl, Bool, true, List, [], ◌∷◌, ◌++◌, T, leb, get_or, length, take, drop, replicate}
+use Rattle.std.proofs.Common.{sym, ap, ◌∙◌, arith, leb→le}
 use Rattle.std.proofs.Math.ListN.{get_or-eq_default}
+use Rattle.std.proofs.Math.Seq.{take-length, take-append_seam}
 use Rattle.market.specs.laws.Table.{both, both_left, both_right, from_one}
 use Rattle.field.specs.Judging.{header_right}
 use Rattle.field.proofs.Sound.{metal-range}
@@ -25,6 +26,29 @@ unfolding instrument_name
 instrument-none i h =
     let low : 6 ≤ i = omega (arith, h.0.0.0.0.0.0.0.0.0.0.0.1, h.0.0.0.0.0.0.0.0.0.0.1, h.0.0.0.0.0.0.0.0.0.1, h.0.0.0.0.0.0.0.0.1, h.0.0.0.0.0.0.0.1, h.0.0.0.0.0.0.1) in
     sym (get_or-eq_default instrument_names [] {n = i} (omega (arith, h.0.0.0.0.0.1, h.0.0.0.0.1, h.0.0.0.1, h.0.0.1, h.0.1, h.1)))
+
+-- ---- names with spaces behind them, up to nine bytes
+
+-- bytes that are all a space
+abbrev blank : ℕ → List ℕ
+blank n = replicate n 32
+
+spaces : (k n : ℕ) → drop k (blank n) ≡ blank (n - k)
+spaces zero n = let z : n ≡ n - 0 = omega arith in ap blank z
+spaces (suc k) zero = let z : 0 ≡ 0 - suc k = omega arith in ap blank z
+spaces (suc k) (suc n) = let z : n - k ≡ suc n - suc k = omega arith in spaces k n ∙ ap blank z
+
+-- bytes copied over nine spaces are a name and spaces behind it, and its length
+pub laid : (s out : List ℕ) (len : ℕ) → len ≡ length s → out ≡ take (length s) s ++ drop (length s) (blank 9) → (out ≡ s ++ blank (9 - length s)) × (len ≡ length s)
+laid s out len e f = (f ∙ simp (take-length, spaces), e)
+
+-- and give the bytes back
+pub name-bytes : (s bytes : List ℕ) (len : ℕ) → bytes ≡ s ++ blank (9 - length s) → len ≡ length s → take len bytes ≡ s
+name-bytes s bytes len e f = simp (e, f) (take-append_seam s (blank (9 - length s)))
+
+-- bytes that are a name are no longer than it can be
+pub name-short : (s name : List ℕ) → name ≡ s → length s ≤ 9 → length name ≤ 9
+name-short s name e h = simp e h
 
 -- ---- lengths
 

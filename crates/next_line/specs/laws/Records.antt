@@ -1,9 +1,10 @@
 -- The pieces of a trade's and of a quote's line, as the code finds them one behind the other. Assumes nothing.
-use Rattle.std.specs.Prelude.{◌≡◌, ℕ, zero, suc, ◌+◌, ◌-◌, ◌*◌, ◌^◌, ◌<◌, ◌≤◌, Bool, true, false, cond, List, [], ◌∷◌, ◌++◌, length, take, drop, ℤ, pos, ◌-ℤ◌, neg_ℤ, FitsSigned, ◌==◌, slice_index, slice_range, unsigned_abs, refl, Option, Some, None}
+use Rattle.std.specs.Prelude.{◌≡◌, ℕ, zero, suc, ◌+◌, ◌-◌, ◌*◌, ◌^◌, ◌<◌, ◌≤◌, Bool, true, false, cond, List, [], ◌∷◌, ◌++◌, length, take, drop, ℤ, pos, ◌-ℤ◌, neg_ℤ, FitsSigned, ◌==◌, slice_index, slice_range, unsigned_abs, refl, Option, Some, None, IfSome}
 use Rattle.std.proofs.Common.{sym, ap, ◌∙◌, subst, arith, to_z, of_z, Fits, to_z-of_z, eqb-true}
 use Rattle.std.specs.Int.{w8, w32}
 use Rattle.std.proofs.Math.Facts.{to_z_pos}
 use Rattle.std.proofs.lemmas.Bool.{eqb-false}
+use Rattle.std.proofs.lemmas.Option.{IfSome_then}
 use Rattle.text.specs.Ascii.{ascii}
 use Rattle.text.specs.Decimal.{digit, decimal}
 use Rattle.field.specs.declared.Price.{Price}
@@ -20,6 +21,13 @@ use Rattle.line_reader.specs.laws.Cases.{side-bit}
 use Rattle.line_reader.specs.laws.Pieces.{trade-line, quote-line}
 use Rattle.line_reader.specs.laws.Trips.{Lined, Shown, Legible, bits, bit-there}
 use Rattle.next_line.specs.laws.Standing.{Stands, Found, Near, Digit-at, then, same_bytes, stands-byte, stands-part, found}
+
+-- what holds where something is handed back
+pub record Where {X : Type 0} (r : Option X) (A : X → Type 0) : Type 0 where
+  pub holds : IfSome r A
+
+pub nowhere : {X : Type 0} {A : X → Type 0} (r : Option X) → r ≡ None → Where r A
+nowhere r e = record { holds = rw e tt }
 
 -- ---- words and names
 
@@ -152,6 +160,9 @@ pub record Stamp-found (s : List ℕ) (at time instrument next : ℕ) : Type 0 w
   pub small : time ≤ 999999999
   pub few : instrument ≤ 11
 
+pub no-stamp : (s : List ℕ) (at : ℕ) → Where None (λ (r : ℕ × ℕ × ℕ). Stamp-found s at r.0 r.1 r.2)
+no-stamp s at = nowhere None refl
+
 pub stamp-found : (s : List ℕ) (at time a b instrument next : ℕ) → Found s at 9 (decimal time) a → Found s a 1 (44 ∷ []) b → Found s b 7 (instrument_name instrument) next → time ≤ 999999999 → instrument ≤ 11 → Stamp-found s at time instrument next
 stamp-found s at time a b instrument next f g h small few = record {
   stamp = record { stands = then f.stands (then g.stands h.stands); near = omega (arith, f.near, g.near, h.near) };
@@ -176,6 +187,18 @@ pub record Quote-is (s : List ℕ) (at time instrument : ℕ) (f : Field) (next 
   pub tail : Stands s at (side_text (side_bit bid == 1) (side_price bid) ++ (44 ∷ side_text (side_bit offer == 1) (side_price offer) ++ 10 ∷ [])) next
   pub shown : Shown (side_bit bid == 1) (side_price bid) × Shown (side_bit offer == 1) (side_price offer)
 
+pub record Trade-found (s : List ℕ) (at time instrument : ℕ) (r : Option (Field × ℕ)) : Type 0 where
+  pub trade : Where r (λ x. Trade-is s at time instrument x.0 x.1)
+
+pub record Quote-found (s : List ℕ) (at time instrument : ℕ) (r : Option (Field × ℕ)) : Type 0 where
+  pub quote : Where r (λ x. Quote-is s at time instrument x.0 x.1)
+
+pub no-trade : (s : List ℕ) (at time instrument : ℕ) (r : Option (Field × ℕ)) → r ≡ None → Trade-found s at time instrument r
+no-trade s at time instrument r e = record { trade = nowhere r e }
+
+pub no-quote : (s : List ℕ) (at time instrument : ℕ) (r : Option (Field × ℕ)) → r ≡ None → Quote-found s at time instrument r
+no-quote s at time instrument r e = record { quote = nowhere r e }
+
 pub trade-found : (s : List ℕ) (at time instrument : ℕ) (p : Price) (a b c lots next : ℕ) → Found s at 13 (price_text p.cents) a → Found s a 1 (44 ∷ []) b → Found s b 9 (decimal lots) c → Found s c 1 (10 ∷ []) next → unsigned_abs p.cents ≤ 999999999 → lots ≤ 65535 → Trade-is s at time instrument (F.Trade time instrument p lots) next
 trade-found s at time instrument p a b c lots next f g h i small most =
     record { price = p; lots = lots; is = refl; tail = then f.stands (then g.stands (then h.stands i.stands)); small = small; most = most }
@@ -196,29 +219,43 @@ pub record Record-is (s : List ℕ) (at : ℕ) (f : Field) (next : ℕ) : Type 0
   pub legible : Legible f
   pub lined : Lined f
 
-module _ (s : List ℕ) (at time instrument stamp : ℕ) (f : Stamp-found s at time instrument stamp) (word : ℕ) (k : Field) (next : ℕ) where
-  pub trade-whole : Found s stamp 7 (ascii ",TRADE,") word → Trade-is s word time instrument k next → Record-is s at k next
-  trade-whole w t =
-      subst (λ (v : Field). Record-is s at v next) (sym t.is)
-      (record {
-        line = same_bytes (trade-line time instrument t.price t.lots) (then f.stamp.stands (then w.stands t.tail));
-        legible = (omega (arith, f.small), f.few, omega (arith, t.small), t.most);
-        lined = tt;
-      })
+pub record Record-found (s : List ℕ) (at : ℕ) (r : Option (Field × ℕ)) : Type 0 where
+  pub here : Where r (λ x. Record-is s at x.0 x.1)
 
-  pub quote-whole : Found s stamp 7 (ascii ",QUOTE,") word → Quote-is s word time instrument k next → Record-is s at k next
-  quote-whole w t =
-      let x = side_bit t.bid in
-      let y = side_bit t.offer in
-      let z = bits x y (side-bit t.bid) (side-bit t.offer) in
-      let bid = bit-there (has_bid (x + 2 * y)) x z.0 in
-      let offer = bit-there (has_offer (x + 2 * y)) y z.1 in
-      let tail = rw (bid, offer) at t.tail in
-      let low = rw bid at t.shown.0 in
-      let high = rw offer at t.shown.1 in
-      subst (λ (v : Field). Record-is s at v next) (sym t.is)
-      (record {
-        line = same_bytes (quote-line time instrument (x + 2 * y) (side_price t.bid) (side_price t.offer)) (then f.stamp.stands (then w.stands tail));
-        legible = (omega (arith, f.small), f.few, omega (arith, side-bit t.bid, side-bit t.offer), low, high);
-        lined = tt;
-      })
+pub no_record : (s : List ℕ) (at : ℕ) (r : Option (Field × ℕ)) → r ≡ None → Record-found s at r
+no_record s at r e = record { here = nowhere r e }
+
+module _ (s : List ℕ) (at time instrument stamp : ℕ) (f : Stamp-found s at time instrument stamp) (word : ℕ) where
+  module _ (w : Found s stamp 7 (ascii ",TRADE,") word) where
+    trade-is : (k : Field) (next : ℕ) → Trade-is s word time instrument k next → Record-is s at k next
+    trade-is k next t =
+        subst (λ (v : Field). Record-is s at v next) (sym t.is)
+        (record {
+          line = same_bytes (trade-line time instrument t.price t.lots) (then f.stamp.stands (then w.stands t.tail));
+          legible = (omega (arith, f.small), f.few, omega (arith, t.small), t.most);
+          lined = tt;
+        })
+
+    pub trade-whole : (r : Option (Field × ℕ)) → Trade-found s word time instrument r → Record-found s at r
+    trade-whole r t = record { here = record { holds = IfSome_then r t.trade.holds (λ x. trade-is x.0 x.1) } }
+
+  module _ (w : Found s stamp 7 (ascii ",QUOTE,") word) where
+    quote-is : (k : Field) (next : ℕ) → Quote-is s word time instrument k next → Record-is s at k next
+    quote-is k next t =
+        let x = side_bit t.bid in
+        let y = side_bit t.offer in
+        let z = bits x y (side-bit t.bid) (side-bit t.offer) in
+        let bid = bit-there (has_bid (x + 2 * y)) x z.0 in
+        let offer = bit-there (has_offer (x + 2 * y)) y z.1 in
+        let tail = rw (bid, offer) at t.tail in
+        let low = rw bid at t.shown.0 in
+        let high = rw offer at t.shown.1 in
+        subst (λ (v : Field). Record-is s at v next) (sym t.is)
+        (record {
+          line = same_bytes (quote-line time instrument (x + 2 * y) (side_price t.bid) (side_price t.offer)) (then f.stamp.stands (then w.stands tail));
+          legible = (omega (arith, f.small), f.few, omega (arith, side-bit t.bid, side-bit t.offer), low, high);
+          lined = tt;
+        })
+
+    pub quote-whole : (r : Option (Field × ℕ)) → Quote-found s word time instrument r → Record-found s at r
+    quote-whole r t = record { here = record { holds = IfSome_then r t.quote.holds (λ x. quote-is x.0 x.1) } }

@@ -1,6 +1,6 @@
 -- What stands in a text at a place, and the number that does. Pieces that stand one behind the other are their join, as for pieces that are put.
 -- Assumes nothing.
-use Rattle.std.specs.Prelude.{◌≡◌, ℕ, suc, ◌+◌, ◌-◌, ◌*◌, ◌^◌, ◌<◌, ◌≤◌, List, [], ◌∷◌, ◌++◌, length, drop, ◌≢◌, slice_index, slice_range, refl}
+use Rattle.std.specs.Prelude.{◌≡◌, ℕ, suc, ◌+◌, ◌-◌, ◌*◌, ◌^◌, ◌<◌, ◌≤◌, List, [], ◌∷◌, ◌++◌, length, drop, ◌≢◌, slice_index, slice_range, refl, None, IfSome}
 use Rattle.std.proofs.Common.{sym, ap, ◌∙◌, subst, append_assoc, pow-suc, add-one, arith, length-append, length-drop, take-append-drop, drop-cons, drop-drop, length-take-le, Fits}
 use Rattle.std.proofs.Math.Nat.{pow-le-pow_right}
 use Rattle.std.specs.Int.{w32}
@@ -49,6 +49,10 @@ stands-part s a e h g =
     }
 
 -- ---- as the code hands them back
+
+-- at no place nothing is found
+pub found_none : (s : List ℕ) (at most : ℕ) (p : List ℕ) → IfSome None (λ (next : ℕ). Found s at most p next)
+found_none s at most p = tt
 
 pub found : {s p : List ℕ} {at most next : ℕ} → Stands s at p next → next ≤ at + most → Found s at most p next
 found x h = record { stands = x; near = h }

@@ -1,7 +1,7 @@
 -- `tape::judge_tape` meets its contract. Assumes nothing.
 use Rattle.std.specs.Prelude.{◌≡◌, Ok, Some}
 use Rattle.std.proofs.Common.{ap, ◌∙◌, rules}
-use Rattle.tape.specs.laws.Track.{t-last, t-bad, t-stop, t-next, t-less}
+use Rattle.tape.specs.laws.Track.{t-last, t-bad, placed-stop, placed-next, t-less}
 use Rattle.tape.proofs.judge_tape.Goals as goal
 use Rattle.tape.proofs.judge_tape.Goals.{In-Ok-Some}
 
@@ -18,7 +18,7 @@ returns-in-Err c = t-bad _ _ _ _ _ c.loop-field.invariant _ c.next_line.ensures 
 
 pub returns-in_err-progress-in-Ok-Some : goal.returns-in_err-progress-in-Ok-Some
 returns-in_err-progress-in-Ok-Some c =
-    t-stop _ _ _ _ _ c.loop-field.invariant _ c.next_line.ensures _ _ (read (goal.at.returns-in_err-progress-in-Ok-Some c).In-Ok-Some) _ c.placed.ensures _ c.in_err-progress-in-Ok-Some.was _ (search rules)
+    placed-stop _ _ _ _ _ c.loop-field.invariant _ c.next_line.ensures _ _ (read (goal.at.returns-in_err-progress-in-Ok-Some c).In-Ok-Some) _ c.placed.ensures _ c.in_err-progress-in-Ok-Some.was _ (search rules)
 
 pub loop-field-smaller : goal.loop-field-smaller
 loop-field-smaller c =
@@ -26,4 +26,4 @@ loop-field-smaller c =
 
 pub loop-field-preserved : goal.loop-field-preserved
 loop-field-preserved c =
-    t-next _ _ _ _ _ c.loop-field.invariant _ c.next_line.ensures _ _ (read (goal.at.loop-field-preserved c).In-Ok-Some) _ c.placed.ensures _ _ c.in_ok-progress-in-Ok-Some.was c.grown_by-bytes.ensures
+    placed-next _ _ _ _ _ c.loop-field.invariant _ c.next_line.ensures _ _ (read (goal.at.loop-field-preserved c).In-Ok-Some) _ c.placed.ensures _ _ c.in_ok-progress-in-Ok-Some.was c.grown_by-bytes.ensures

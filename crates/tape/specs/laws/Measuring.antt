@@ -1,6 +1,8 @@
 -- What judging a text finds out before a byte is written: the bytes of its fields, or the first bad line. Assumes nothing.
 use Rattle.std.specs.Prelude.{ℕ, ◌+◌, ◌≤◌, ◌<◌, ◌≡◌, refl, List, [], ◌∷◌, ◌++◌, min, length}
-use Rattle.std.proofs.Common.{sym, ap, ◌∙◌, append_assoc, append-nil, arith, length-append}
+use Rattle.std.proofs.Common.{sym, ap, ◌∙◌, append_assoc, append-nil, arith, length-append, Fits}
+use Rattle.std.specs.Int.{w64}
+use Rattle.field.specs.declared.Form.TheVariants.{Short, Long}
 use Rattle.field.specs.declared.Field.{Field}
 use Rattle.field.specs.declared.Field.TheVariants as F
 use Rattle.field.specs.Layout.{size_of, tag_of, field_bytes, body_bytes}
@@ -22,6 +24,20 @@ abbrev pub measured : ℕ → LinesSay → Said (Unit {0})
 measured bytes (tells fs) = gives tt (stop_at (bytes + length (encode fs)))
 measured bytes (bad number line) = refuses number line
 
+-- ---- stopping
+
+pub within : (n : ℕ) → n ≤ 1048577 → stop_at n ≡ n
+within n h = omega arith
+
+pub beyond : (n : ℕ) → 1048577 ≤ n → stop_at n ≡ 1048577
+beyond n h = omega arith
+
+pub stop-most : (n : ℕ) → stop_at n ≤ 1048577
+stop-most n = omega arith
+
+stop-twice : (n k : ℕ) → stop_at (stop_at n + k) ≡ stop_at (n + k)
+stop-twice n k = omega arith
+
 -- a field more is its bytes more
 pub measured-with : (bytes : ℕ) (f : Field) (t : LinesSay) → measured bytes (with f t) ≡ measured (grown bytes f) t
 unfolding encode
@@ -32,6 +48,30 @@ measured-with bytes f (bad number line) = refl
 pub measured-none : (bytes : ℕ) → bytes ≤ 1048577 → gives tt bytes ≡ measured bytes (tells [])
 unfolding encode
 measured-none bytes h = ap (gives tt) (omega arith)
+
+-- ---- as the code adds a field's bytes
+
+size_small : (f : Field) → size_of (tag_of f) ≤ 17
+unfolding tag_of
+size_small (F.Header metal marks Short) = omega arith
+size_small (F.Header metal marks (Long third)) = omega arith
+size_small (F.PreviousClose instrument p) = omega arith
+size_small (F.Trade time instrument p lots) = omega arith
+size_small (F.Quote time instrument sides bid offer) = omega arith
+size_small (F.End count) = omega arith
+
+module _ (bytes : ℕ) (f : Field) (t n : ℕ) (e : t ≡ tag_of f) (q : n ≡ size_of t) where
+  is-size : n ≡ size_of (tag_of f)
+  is-size = q ∙ ap (λ (v : ℕ). size_of v) e
+
+  pub grown-fits : bytes < 4294967296 → Fits w64 (bytes + n)
+  grown-fits h = record { fits = omega (arith, is-size, size_small f) }
+
+  pub grown-low : bytes + n ≤ 1048577 → bytes + n ≡ grown bytes f
+  grown-low h = omega (arith, is-size)
+
+  pub grown-high : 1048577 < bytes + n → 1048577 ≡ grown bytes f
+  grown-high h = omega (arith, is-size)
 
 -- ---- the bytes of fields
 

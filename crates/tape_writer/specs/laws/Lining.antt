@@ -1,7 +1,7 @@
 -- What holds as the lines of a sheet's fields are measured and put into the buffer, and what the answers of `sheet_to_tape` are. Assumes nothing.
-use Rattle.std.specs.Prelude.{ℕ, ◌+◌, ◌*◌, ◌≤◌, Bool, true, false, ◌≡◌, List, [], ◌∷◌, ◌++◌, leb, length, Result, Ok, Err}
+use Rattle.std.specs.Prelude.{ℕ, ◌+◌, ◌*◌, ◌/◌, ◌≤◌, ◌<◌, Bool, true, false, ◌≡◌, List, [], ◌∷◌, ◌++◌, leb, length, Result, Ok, Err}
 use Rattle.std.proofs.Math.Path.{refl}
-use Rattle.std.proofs.Common.{sym, ap, ◌∙◌, append_assoc, append-nil, arith, length-append, leb-true, Fits}
+use Rattle.std.proofs.Common.{sym, ap, ◌∙◌, append_assoc, append-nil, arith, le-div_iff_mul-le, length-append, le-leb, leb-true, Fits}
 use Rattle.std.specs.Int.{w64}
 use Rattle.text.specs.Over.{over}
 use Rattle.text.specs.laws.Putting.{Wrote, over-length, then}
@@ -79,6 +79,13 @@ module _ (s : List ℕ) (at len : ℕ) (o : Sofar text_long s at len) {r : Resul
 
   pub len-fits : Readable s → {f : Field} {next n : ℕ} → r ≡ Ok (f, next) → n ≡ length (line_text f) → Fits w64 (len + n)
   len-fits k {f} {next} {n} d q = record { fits = omega (arith, len-most s next (len + n) (len-next d q), k.whole, k.small) }
+
+-- ---- room
+
+pub room-three : (s : List ℕ) (room : ℕ) → Readable s → length s ≤ room / 3 → true ≡ leb (text_long (fields_of s)) room
+room-three s room k h =
+    let three : 0 < 3 = omega arith in
+    sym (le-leb (text_long (fields_of s)) room (omega (arith, k.whole, (le-div_iff_mul-le three).0 h)))
 
 -- ---- putting
 
