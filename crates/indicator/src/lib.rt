@@ -25,13 +25,18 @@ fn below_offer(reference: Price, offer: Option<Price>) -> Price
     }
 }
 
-// A bid above the reference, an offer below it, otherwise the reference.
+// A bid above the reference, an offer below it, otherwise the reference. The tests are nested: a guard has both made of every field of a sheet.
 fn inside_book(reference: Price, bid: Option<Price>, offer: Option<Price>) -> Price
     ensures { result ≡ inside_book reference bid offer }
 {
     match bid {
-        Some(b) if reference.cents < b.cents => b,
-        _ => below_offer(reference, offer),
+        Some(b) => {
+            if reference.cents < b.cents {
+                return b;
+            }
+            below_offer(reference, offer)
+        }
+        None => below_offer(reference, offer),
     }
 }
 
