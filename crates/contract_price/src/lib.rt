@@ -10,7 +10,9 @@ ghost use Rattle.contract_price.specs.laws.Numbers.{Summable, mean_by, row_by, s
 
 use cents::rounded_close;
 use market::{MINIMUM_LOTS, WINDOW, contract_of, is_marked, is_named, leg_of, step_by};
-use price_rules::{Answer, Book, Closes, Known, Mean, Method, Sum, implied_price, vwap_sum};
+use price_rules::{
+    Answer, Book, Closes, Known, Mean, Method, Priced, Sum, Unpriced, implied_price, vwap_sum,
+};
 
 // The mean of the indicator over the window, applied to the other leg's close; none where there is no reference.
 fn indicator_mean(marks: u16, closes: &Closes, i: u8, span: Option<i64>) -> Option<Mean>
@@ -46,23 +48,13 @@ fn mean_by_lots(marks: u16, closes: &Closes, i: u8, s: Sum, span: Option<i64>) -
 fn rounded(mean: Option<Mean>, lots: u64, step: u32) -> Answer
     ensures { answer_says result ≡ answered step lots mean }
 {
-    match mean {
-        Some(
-            Mean {
-                method,
-                sum,
-                weight,
-            },
-        ) => match rounded_close(sum, weight, step) {
-            Some(close) => Answer::Priced {
-                method,
-                close,
-                lots,
-            },
-            None => Answer::OutOfRange(lots),
-        },
-        None => Answer::NoReference(lots),
-    }
+    let mean = mean.ok_or(Unpriced::NoReference(lots))?;
+    let close = rounded_close(mean.sum, mean.weight, step).ok_or(Unpriced::OutOfRange(lots))?;
+    Ok(Priced {
+        method: mean.method,
+        close,
+        lots,
+    })
 }
 
 // One contract, by its row and the closes before it.
@@ -82,7 +74,7 @@ pub fn price_one(book: &Book, known: &Known, span: Option<i64>, c: usize) -> Ans
     ensures { answer_says result ≡ step_by book.now.metal book.now.marks book.now.third book.now.totals (span_says span) (known_says known.now) c }
 {
     if known.stopped {
-        return Answer::NotReached;
+        return Err(Unpriced::NotReached);
     }
     if is_named(book.third, c) {
         return known.three;

@@ -10,18 +10,18 @@ use mathlib.Core.Bool.{true}
 use mathlib.Core.List.{List}
 use mathlib.Core.Logic.{◌⊎◌}
 use lib.IntN.{ℤ}
+use Rattle.std.specs.Prelude.{Result, Ok, Err}
 use borrow.Fn.Kinds.{ended_of}
 use contract.Lifetimes.{Lfts}
 use denote.Bor.{Bor}
 use denote.Triple.Clauses.{AtExit}
 use Rattle.wire.specs.Big.{Bytes}
 use Rattle.field.specs.laws.Field.{clash}
+use Rattle.field.specs.declared.Refusal.{Refusal}
 use Rattle.sheet.specs.declared.Day.{Day}
 use Rattle.sheet.specs.Fields.{fields_of, Each}
 use Rattle.sheet.specs.Judgement.{Verdict, accepts, refuses-at, judge_sheet}
 use Rattle.price_rules.specs.declared.SixAnswers.{SixAnswers}
-use Rattle.price_rules.specs.declared.Closed.{Closed}
-use Rattle.price_rules.specs.declared.Closed.TheVariants as C
 use Rattle.price_rules.specs.Closing.{Told, refused, six, none-priced, answers_by, answers_of}
 use Rattle.price_rules.specs.Says.{closings_say, closed_says}
 use Rattle.price_rules.specs.laws.Says.{closed-once}
@@ -35,7 +35,7 @@ use Rattle.laws.proofs.Turning.{turns}
 use Rattle.laws.proofs.Named.{named-agrees}
 
 -- `closings`, lent a sheet that holds s, may answer x
-pub record Closes (s : List ℕ) (x : Closed) : Type 0 where
+pub record Closes (s : List ℕ) (x : Result (Day × SixAnswers) Refusal) : Type 0 where
   pub κs : Lfts 1
   pub sheet : Bor (List ℕ)
   pub exit : AtExit (ended_of 1 closingsK.ps closingsK.r) κs
@@ -43,7 +43,7 @@ pub record Closes (s : List ℕ) (x : Closed) : Type 0 where
   pub holds : sheet.now ≡ s
 
 -- the answer is the definition's
-pub says : {s : List ℕ} {x : Closed} → Closes s x → closed_says x ≡ answers_of s
+pub says : {s : List ℕ} {x : Result (Day × SixAnswers) Refusal} → Closes s x → closed_says x ≡ answers_of s
 says {s} c = c.permits ∙ ap answers_of c.holds
 
 -- ---- six answers are those of an accepted sheet
@@ -63,25 +63,25 @@ accepted s day ts e = by (judge_sheet s) refl
     by (refuses-at number at) k = let z : none-priced number at ≡ six day ts = sym (ap (answers_by (fields_of s)) k) ∙ e in clash cc
 
 -- a result that says six answers has them
-pub record HasSix (y : Closed) (day : Day) (ts : List Told) : Type 0 where
+pub record HasSix (y : Result (Day × SixAnswers) Refusal) (day : Day) (ts : List Told) : Type 0 where
   pub answers : SixAnswers
-  pub is : y ≡ C.Six day answers
+  pub is : y ≡ Ok (day, answers)
   pub say : closings_say answers ≡ ts
 
-has-six : (y : Closed) (day : Day) (ts : List Told) → closed_says y ≡ six day ts → HasSix y day ts
-has-six (C.Six other r) day ts e = record { answers = r; is = ap (λ (d : Day). C.Six d r) (six-day other day (closings_say r) ts e); say = six-answers other day (closings_say r) ts e }
-has-six (C.Refused number at) day ts e = clash cc
+has-six : (y : Result (Day × SixAnswers) Refusal) (day : Day) (ts : List Told) → closed_says y ≡ six day ts → HasSix y day ts
+has-six (Ok (other, r)) day ts e = record { answers = r; is = ap (λ (d : Day). Ok (d, r)) (six-day other day (closings_say r) ts e); say = six-answers other day (closings_say r) ts e }
+has-six (Err refusal) day ts e = clash cc
 
 -- ---- the laws
 
 -- the second result has six answers too, those of the first lifted by δ
-pub record LiftedTo (δ : ℤ) (day : Day) (r : SixAnswers) (y : Closed) : Type 0 where
+pub record LiftedTo (δ : ℤ) (day : Day) (r : SixAnswers) (y : Result (Day × SixAnswers) Refusal) : Type 0 where
   pub answers : SixAnswers
-  pub is : y ≡ C.Six day answers
+  pub is : y ≡ Ok (day, answers)
   pub moves : Moves δ (closings_say r) (closings_say answers)
 
-pub closings-lift : {s : List ℕ} {day : Day} {r : SixAnswers} {y : Closed} (k : ℤ) → Bytes s → Each (Liftable (steps day k)) (fields_of s)
-    → Closes s (C.Six day r) → Closes (lifted (steps day k) s) y → LiftedTo (steps day k) day r y
+pub closings-lift : {s : List ℕ} {day : Day} {r : SixAnswers} {y : Result (Day × SixAnswers) Refusal} (k : ℤ) → Bytes s → Each (Liftable (steps day k)) (fields_of s)
+    → Closes s (Ok (day, r)) → Closes (lifted (steps day k) s) y → LiftedTo (steps day k) day r y
 closings-lift {s} {day} {r} {y} k b l before after =
     let was = sym (says before) in
     let law = shifts s day k b (accepted s day (closings_say r) was) l in
@@ -90,8 +90,8 @@ closings-lift {s} {day} {r} {y} k b l before after =
     record { answers = to.answers; is = to.is; moves = subst (λ (ts : List Told). Moves (steps day k) ts (closings_say to.answers)) from (subst (Moves (steps day k) law.before) (sym to.say) law.moves) }
 
 -- the second result has the same six answers
-pub closings-turn : {s : List ℕ} {day : Day} {r : SixAnswers} {y : Closed} (i : ℕ) → Bytes s → 1 ≤ i → i ≤ 11
-    → Closes s (C.Six day r) → Closes (turned i s) y → y ≡ C.Six (turned_day i day) r
+pub closings-turn : {s : List ℕ} {day : Day} {r : SixAnswers} {y : Result (Day × SixAnswers) Refusal} (i : ℕ) → Bytes s → 1 ≤ i → i ≤ 11
+    → Closes s (Ok (day, r)) → Closes (turned i s) y → y ≡ Ok (turned_day i day, r)
 closings-turn {s} {day} {r} {y} i b low high before after =
     let was = sym (says before) in
     let law = turns s day i b (accepted s day (closings_say r) was) low high in
@@ -99,6 +99,6 @@ closings-turn {s} {day} {r} {y} i b low high before after =
     closed-once (says after ∙ law.is-now) (ap (six (turned_day i day)) (sym same))
 
 -- the contract that 3M is has 3M's answer, or is not reached
-pub closings-named : {s : List ℕ} {day : Day} {r : SixAnswers} (c : ℕ) → c < 6 → named (third_of day.form) c ≡ true → Closes s (C.Six day r)
+pub closings-named : {s : List ℕ} {day : Day} {r : SixAnswers} (c : ℕ) → c < 6 → named (third_of day.form) c ≡ true → Closes s (Ok (day, r))
     → (answer_at (closings_say r) c ≡ answer_at (closings_say r) 3M) ⊎ (answer_at (closings_say r) c ≡ refused 15 0)
 closings-named {s} {day} {r} c low n told = named-agrees s day (closings_say r) c low (sym (says told)) n

@@ -10,6 +10,7 @@ ghost use Rattle.price_rules.specs.laws.Adding.{Within, total_at, add_instrument
 
 mod lent;
 
+use field::Refusal;
 pub use lent::{Book, Closes};
 use market::{Leg, is_marked, leg_of};
 use sheet::Day;
@@ -20,14 +21,17 @@ pub enum Method {
     Twap,
 }
 
-// A contract's answer. Lots are the sum over its VWAP instruments in the window.
+// A contract's close, and what it was priced by. Lots are the sum over its VWAP instruments in the window.
 #[derive(Clone, Copy)]
-pub enum Answer {
-    Priced {
-        method: Method,
-        close: u32,
-        lots: u64,
-    },
+pub struct Priced {
+    pub method: Method,
+    pub close: u32,
+    pub lots: u64,
+}
+
+// Why a contract has no close, with the same lots.
+#[derive(Clone, Copy)]
+pub enum Unpriced {
     // Below the minimum of lots, and no reference at the window's first millisecond.
     NoReference(u64),
     // Rounded, it is no close from 1 to 99,999,999.
@@ -36,7 +40,10 @@ pub enum Answer {
     NotReached,
 }
 
-// The answers in pricing order.
+// A contract's answer.
+pub type Answer = Result<Priced, Unpriced>;
+
+// The answers in pricing order. By name, and no array: what is said of every value of the type, as the length of its list, is said of six.
 #[derive(Clone, Copy)]
 pub struct SixAnswers {
     pub three: Answer,
@@ -47,12 +54,8 @@ pub struct SixAnswers {
     pub cash: Answer,
 }
 
-// The six answers of an accepted sheet with what its header says, or the sheet's refusal: number and byte.
-#[derive(Clone, Copy)]
-pub enum Closed {
-    Six(Day, SixAnswers),
-    Refused(u8, usize),
-}
+// The six answers of an accepted sheet with what its header says, or the sheet's refusal.
+pub type Closed = Result<(Day, SixAnswers), Refusal>;
 
 // What is known before a contract: the closes established so far, whether a contract was refused, and 3M's answer.
 #[derive(Clone, Copy)]
@@ -85,7 +88,7 @@ impl Known {
         Known {
             closes: Closes::none(),
             stopped: false,
-            three: Answer::NotReached,
+            three: Err(Unpriced::NotReached),
         }
     }
 
@@ -95,11 +98,11 @@ impl Known {
         ensures { known_says self.new ≡ learnt (known_says self.old) contract (answer_says answer) }
     {
         match answer {
-            Answer::Priced { close, .. } => {
-                self.closes.establish(contract, close);
+            Ok(priced) => {
+                self.closes.establish(contract, priced.close);
                 self.stopped = false;
             }
-            _ => self.stopped = true,
+            Err(_) => self.stopped = true,
         }
         if contract == 0 {
             self.three = answer;

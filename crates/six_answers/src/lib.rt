@@ -13,8 +13,7 @@ ghost use Rattle.six_answers.specs.laws.Asking.{lots_from, asks, some_ask, Provi
 use contract_price::price_one;
 use field::judge::third_of;
 use market::{MINIMUM_LOTS, contract_of, is_named};
-use price_rules::{Answer, Book, Closed, Known, SixAnswers};
-use sheet::Judged;
+use price_rules::{Book, Closed, Known, SixAnswers, Unpriced};
 use trades::totals;
 use twap::sums_of;
 
@@ -71,7 +70,7 @@ fn price_all(sheet: &[u8], book: &Book) -> SixAnswers
 {
     let sums = sums_if(sheet, book.metal, some_ask(book));
     let mut known = Known::nothing();
-    let mut six = [Answer::NotReached; 6];
+    let mut six = [Err(Unpriced::NotReached); 6];
     for c in 0..6 {
         let row = contract_of(c);
         let span = sums[row.twap as usize];
@@ -93,18 +92,14 @@ fn price_all(sheet: &[u8], book: &Book) -> SixAnswers
 pub fn closings(sheet: &[u8]) -> Closed
     ensures { closed_says result ≡ answers_of sheet.now }
 {
-    let traded = totals(sheet);
+    let traded = totals(sheet)?;
+    let day = traded.day;
     let totals = traded.totals;
-    match traded.judged {
-        Judged::Accepted(day) => {
-            let book = Book {
-                metal: day.metal,
-                marks: day.marks,
-                third: third_of(day.form),
-                totals,
-            };
-            Closed::Six(day, price_all(sheet, &book))
-        }
-        Judged::Refused(number, at) => Closed::Refused(number, at),
-    }
+    let book = Book {
+        metal: day.metal,
+        marks: day.marks,
+        third: third_of(day.form),
+        totals,
+    };
+    Ok((day, price_all(sheet, &book)))
 }

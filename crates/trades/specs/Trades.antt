@@ -1,11 +1,13 @@
 -- RULES 4 and 5: the trades of each instrument that count, over a sheet's fields in sheet order, and their sums: lots, and lots times quoted
 -- price. What a contract's VWAP is made of.
-use Rattle.std.specs.Prelude.{ℕ, zero, suc, ◌+◌, ◌≡◌, Bool, ◌&&◌, cond, List, [], ◌∷◌, ◌++◌, map, eqb, ℤ, pos, ◌+ℤ◌, ◌*ℤ◌, replicate}
+use Rattle.std.specs.Prelude.{ℕ, zero, suc, ◌+◌, ◌≡◌, Bool, ◌&&◌, cond, List, [], ◌∷◌, ◌++◌, map, eqb, ℤ, pos, ◌+ℤ◌, ◌*ℤ◌, replicate, Result, Ok, Err}
 use Rattle.field.specs.declared.Field.{Field}
 use Rattle.field.specs.declared.Field.TheVariants.{Header, PreviousClose, Trade, Quote, End}
+use Rattle.field.specs.declared.Refusal.{Refusal}
+use Rattle.field.specs.Said.{fault_number}
 use Rattle.market.specs.Market.{start_of, in_window}
 use Rattle.sheet.specs.Fields.{fields_of}
-use Rattle.sheet.specs.Judgement.{Verdict, accepts, refuses-at, judge_sheet, judged_says}
+use Rattle.sheet.specs.Judgement.{Verdict, accepts, refuses-at, judge_sheet}
 use Rattle.trades.specs.declared.Total.{Total}
 use Rattle.trades.specs.declared.Traded.{Traded}
 
@@ -70,7 +72,16 @@ unfoldable pub totals_by : Verdict → List Field → List Total
 totals_by (accepts day) fs = totals_of day.metal fs
 totals_by (refuses-at number at) fs = no_trades
 
+-- what a result says of the judgement, and of the totals: it has none where it refuses
+abbrev pub judged_by : Result Traded Refusal → Verdict
+judged_by (Ok traded) = accepts traded.day
+judged_by (Err refusal) = refuses-at (fault_number refusal.fault) refusal.at
+
+abbrev pub totals_in : Result Traded Refusal → List Total
+totals_in (Ok traded) = traded.totals
+totals_in (Err refusal) = no_trades
+
 -- what a result tells of a sheet: its judgement, and its totals
-pub record Told (s : List ℕ) (r : Traded) : Type 0 where
-  pub judged : judged_says r.judged ≡ judge_sheet s
-  pub totals : r.totals ≡ totals_by (judge_sheet s) (fields_of s)
+pub record Told (s : List ℕ) (r : Result Traded Refusal) : Type 0 where
+  pub judged : judged_by r ≡ judge_sheet s
+  pub totals : totals_in r ≡ totals_by (judge_sheet s) (fields_of s)

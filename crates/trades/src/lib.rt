@@ -12,10 +12,10 @@ ghost use Rattle.trades.specs.laws.Trades.{Small};
 ghost use Rattle.trades.specs.laws.Pass.{with_trade, counted_in};
 
 use field::layout::size_of;
-use field::{Field, Price, layout};
+use field::{Field, Price, Refusal, layout};
 use market::{Metal, in_window, metal_of, start_in};
 use raw_reader::trade_of;
-use sheet::{Judged, judge_sheet};
+use sheet::{Day, judge_sheet};
 
 // The lots of an instrument's trades in its window, and the sum of lots times quoted price, in cents.
 #[derive(Clone, Copy)]
@@ -24,10 +24,10 @@ pub struct Total {
     pub value: i64,
 }
 
-// The judgement of a sheet, and its totals by instrument, 0 to 11.
+// An accepted sheet's day, and the totals of its trades by instrument, 0 to 11.
 #[derive(Clone, Copy)]
 pub struct Traded {
-    pub judged: Judged,
+    pub day: Day,
     pub totals: [Total; 12],
 }
 
@@ -107,19 +107,13 @@ fn totals_of(sheet: &[u8], metal: u8) -> [Total; 12]
     totals
 }
 
-// Judges a sheet, and where it is accepted gives the totals of its trades; where it is refused all totals are zero.
-pub fn totals(sheet: &[u8]) -> Traded
+// Judges a sheet, and gives the totals of its trades where it is accepted.
+pub fn totals(sheet: &[u8]) -> Result<Traded, Refusal>
     ensures { Told sheet.now result }
 {
-    let judged = judge_sheet(sheet);
-    match judged {
-        Judged::Accepted(day) => Traded {
-            judged,
-            totals: totals_of(sheet, day.metal),
-        },
-        Judged::Refused(_, _) => Traded {
-            judged,
-            totals: NO_TRADES,
-        },
-    }
+    let day = judge_sheet(sheet)?;
+    Ok(Traded {
+        day,
+        totals: totals_of(sheet, day.metal),
+    })
 }

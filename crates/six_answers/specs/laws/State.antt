@@ -3,7 +3,7 @@
 --     known-bounded    every close that is known is at most 99,999,999
 --     Stands           the code's state before a contract: at the first, one step on, and behind the last
 -- Assumes nothing.
-use Rattle.std.specs.Prelude.{◌≡◌, refl, Bool, true, false, ◌&&◌, cond, List, [], ◌∷◌, ℕ, zero, suc, ◌+◌, ◌≤◌, ◌<◌, T, leb, eqb, length, set, replicate, ℤ, pos, negsuc, Option, Some, None}
+use Rattle.std.specs.Prelude.{◌≡◌, refl, Bool, true, false, ◌&&◌, cond, List, [], ◌∷◌, ℕ, zero, suc, ◌+◌, ◌≤◌, ◌<◌, T, leb, eqb, length, set, replicate, ℤ, pos, negsuc, Option, Some, None, Result, Ok}
 use Rattle.std.proofs.Math.Path.{ap}
 use Rattle.std.proofs.Common.{◌∙◌, arith, leb→le, get_or-set_same, get_or-set_other}
 use Rattle.std.proofs.Math.Numerals.{add-one}
@@ -16,8 +16,8 @@ use Rattle.cents.specs.Close as cents
 use Rattle.price_rules.specs.declared.Method.{Method}
 use Rattle.price_rules.specs.declared.Method.TheVariants.{Vwap}
 use Rattle.price_rules.specs.declared.Mean.{Mean}
-use Rattle.price_rules.specs.declared.Answer.{Answer}
-use Rattle.price_rules.specs.declared.Answer.TheVariants.{Priced}
+use Rattle.price_rules.specs.declared.Priced.{Priced}
+use Rattle.price_rules.specs.declared.Unpriced.{Unpriced}
 use Rattle.price_rules.specs.declared.SixAnswers.{SixAnswers}
 use Rattle.price_rules.specs.Closing.{Figures, lots_of, mean_of, Told, close, refused, closed, answered, row_answer, Known, answer_by, closes_with, learnt, nothing_known, known_at, answer_of, closings_of}
 use Rattle.price_rules.specs.laws.Sizes.{Bounded, bounded-set, Small}
@@ -100,10 +100,10 @@ known-bounded day c = (known_small day c).closes
 -- ---- one step of the code
 
 -- an array of six answers by name; what its `get_or` gives past the end is never asked
-abbrev pub at : List Answer → ℕ → Answer
-at six c = get_or six c (Priced Vwap 0 0)
+abbrev pub at : List (Result Priced Unpriced) → ℕ → Result Priced Unpriced
+at six c = get_or six c (Ok (record { method = Vwap; close = 0; lots = 0 }))
 
-abbrev pub by_name : List Answer → SixAnswers
+abbrev pub by_name : List (Result Priced Unpriced) → SixAnswers
 by_name six = record { three = at six 0; m3 = at six 1; m2 = at six 2; m4 = at six 3; m1 = at six 4; cash = at six 5 }
 
 closings-are : (day : Figures) {a b c d e f : Told} → a ≡ answer_of day 0 → b ≡ answer_of day 1 → c ≡ answer_of day 2 → d ≡ answer_of day 3 → e ≡ answer_of day 4 → f ≡ answer_of day 5 → a ∷ b ∷ c ∷ d ∷ e ∷ f ∷ [] ≡ closings_of day
@@ -111,17 +111,17 @@ unfolding closings_of
 closings-are day p q r s t u = cc
 
 -- before contract c: what is known, and the answers so far
-pub record Stands (day : Figures) (k : code.Known) (six : List Answer) (c : ℕ) : Type 0 where
+pub record Stands (day : Figures) (k : code.Known) (six : List (Result Priced Unpriced)) (c : ℕ) : Type 0 where
   pub six-long : length six ≡ 6
   pub known : known_says k ≡ known_at day c
-  pub told : (j : ℕ) (d : Answer) → j < c → answer_says (get_or six j d) ≡ answer_of day j
+  pub told : (j : ℕ) (d : Result Priced Unpriced) → j < c → answer_says (get_or six j d) ≡ answer_of day j
 
-pub stands-first : (day : Figures) {known : code.Known} (six : List Answer) → length six ≡ 6 → known_says known ≡ nothing_known → Stands day known six 0
+pub stands-first : (day : Figures) {known : code.Known} (six : List (Result Priced Unpriced)) → length six ≡ 6 → known_says known ≡ nothing_known → Stands day known six 0
 unfolding known_at
 stands-first day six e n = record { six-long = e; known = n; told = λ j d h. absurd (omega arith) }
 
-module _ (day : Figures) {known : code.Known} {six : List Answer} {c : ℕ} (s : Stands day known six c) where
-  module _ (a : Answer) (e : answer_says a ≡ answer_by day (known_says known) c) where
+module _ (day : Figures) {known : code.Known} {six : List (Result Priced Unpriced)} {c : ℕ} (s : Stands day known six c) where
+  module _ (a : Result Priced Unpriced) (e : answer_says a ≡ answer_by day (known_says known) c) where
     answer : answer_says a ≡ answer_of day c
     answer = e ∙ ap (λ (k : Known). answer_by day k c) s.known
 
@@ -137,7 +137,7 @@ module _ (day : Figures) {known : code.Known} {six : List Answer} {c : ℕ} (s :
       told = λ j d l. by_place j d (dec_lt j c) l;
     }
       where
-        by_place : (j : ℕ) (d : Answer) → Dec (j < c) → j < c + 1 → answer_says (get_or (set six c a) j d) ≡ answer_of day j
+        by_place : (j : ℕ) (d : Result Priced Unpriced) → Dec (j < c) → j < c + 1 → answer_says (get_or (set six c a) j d) ≡ answer_of day j
         by_place j d (yes l) k = ap answer_says (get_or-set_other six c j a d (λ f. omega arith)) ∙ s.told j d l
         by_place j d (no l) k = let same : j ≡ c = omega arith in rw same (ap answer_says (get_or-set_same six c a d (omega (arith, s.six-long))) ∙ answer)
 

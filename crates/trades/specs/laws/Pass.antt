@@ -1,7 +1,7 @@
 -- The pass over the fields as the code makes it: twelve totals, of which a trade that counts changes its instrument's. What that does to one total
 -- stands here, and the pass itself is `sheet`'s pass by instruments.
 -- Assumes nothing.
-use Rattle.std.specs.Prelude.{ℕ, ◌+◌, ◌≤◌, ◌<◌, ◌≡◌, Bool, true, false, cond, List, [], ◌∷◌, ◌++◌, eqb, ℤ, pos, ◌+ℤ◌, ◌*ℤ◌, length, get_or, set, Option, Some, None}
+use Rattle.std.specs.Prelude.{ℕ, ◌+◌, ◌≤◌, ◌<◌, ◌≡◌, Bool, true, false, cond, List, [], ◌∷◌, ◌++◌, eqb, ℤ, pos, ◌+ℤ◌, ◌*ℤ◌, length, get_or, set, Option, Some, None, Result, Ok, Err}
 use Rattle.std.proofs.Math.Path.{refl, sym, ap}
 use Rattle.std.proofs.Common.{subst, ◌∙◌, append-nil, arith, eqb-true, ext_get_or, Fits}
 use Rattle.std.proofs.lemmas.Bool.{eqb-false}
@@ -9,6 +9,7 @@ use Rattle.std.proofs.Math.IntN.{+ℤ_idr}
 use Rattle.std.specs.Int.{w64}
 use Rattle.field.specs.declared.Price.{Price}
 use Rattle.field.specs.declared.Field.{Field}
+use Rattle.field.specs.declared.Refusal.{Refusal}
 use Rattle.field.specs.declared.Field.TheVariants.{Header, PreviousClose, Trade, Quote, End}
 use Rattle.field.specs.Layout.{size_of, trade_of, field_of}
 use Rattle.field.specs.Reading.{body_at}
@@ -19,8 +20,6 @@ use Rattle.market.specs.declared.Metal.{Metal}
 use Rattle.market.specs.Market.{metal_of, start_of, in_window}
 use Rattle.market.specs.laws.Rows.{start_in}
 use Rattle.sheet.specs.declared.Day.{Day}
-use Rattle.sheet.specs.declared.Judged.{Judged}
-use Rattle.sheet.specs.declared.Judged.TheVariants as J
 use Rattle.sheet.specs.Fields.{fields_of}
 use Rattle.sheet.specs.Judgement.{accepts, judge_sheet, judged_says}
 use Rattle.sheet.specs.laws.Accepted.{accepted-small}
@@ -243,8 +242,8 @@ module _ (metal : ℕ) (s : List ℕ) (at : ℕ) (ts : List Total) (o : Passing 
           no-trade (End count) v = refl
 
 -- the judgement: what is known where it accepts, and what is told of the sheet
-module _ (s : List ℕ) {j : Judged} (e : judged_says j ≡ judge_sheet s) where
-  module _ {day : Day} (d : j ≡ J.Accepted day) where
+module _ (s : List ℕ) {j : Result Day Refusal} (e : judged_says j ≡ judge_sheet s) where
+  module _ {day : Day} (d : j ≡ Ok day) where
     accepted : judge_sheet s ≡ accepts day
     accepted = sym e ∙ ap judged_says d
 
@@ -254,10 +253,10 @@ module _ (s : List ℕ) {j : Judged} (e : judged_says j ≡ judge_sheet s) where
     pub known-short : length s ≤ 1048576
     known-short = accepted-small s day accepted
 
-    pub told-accepted : {ts : List Total} → ts ≡ totals_of day.metal (fields_of s) → Told s (record { judged = J.Accepted day; totals = ts })
+    pub told-accepted : {ts : List Total} → ts ≡ totals_of day.metal (fields_of s) → Told s (Ok (record { day = day; totals = ts }))
     unfolding totals_by
     told-accepted k = record { judged = sym accepted; totals = rw accepted k }
 
-  pub told-refused : {number at : ℕ} {ts : List Total} → j ≡ J.Refused number at → ts ≡ no_trades → Told s (record { judged = j; totals = ts })
+  pub told-refused : {refusal : Refusal} → j ≡ Err refusal → Told s (Err refusal)
   unfolding totals_by
-  told-refused d k = record { judged = e; totals = rw (sym e ∙ ap judged_says d) k }
+  told-refused d = let refused = sym e ∙ ap judged_says d in record { judged = sym refused; totals = rw refused refl }

@@ -6,8 +6,8 @@
 --     accepted-total                the same of an accepted sheet, where a trade takes 14 bytes
 --     totals-at                     an instrument's place among the totals;  told-once    a result is one
 -- Assumes nothing.
-use Rattle.std.specs.Prelude.{ℕ, zero, suc, ◌+◌, ◌-◌, ◌*◌, ◌≤◌, ◌<◌, ◌≡◌, Bool, ◌&&◌, eqb, ℤ, pos, nat_abs, ◌+ℤ◌, ◌*ℤ◌, get_or}
-use Rattle.std.proofs.Math.Path.{refl, sym, ap}
+use Rattle.std.specs.Prelude.{ℕ, zero, suc, ◌+◌, ◌-◌, ◌*◌, ◌≤◌, ◌<◌, ◌≡◌, Bool, ◌&&◌, eqb, ℤ, pos, nat_abs, ◌+ℤ◌, ◌*ℤ◌, get_or, Result, Ok, Err}
+use Rattle.std.proofs.Math.Path.{refl, sym, ap, ap₂}
 use Rattle.std.proofs.Common.{◌∙◌, mul-le-mul, eq-eqb, ne_eqb, eqb-true}
 use Rattle.std.proofs.Math.Bool.{true, false, cond}
 use mathlib.Core.List.{List, [], ◌∷◌, ◌++◌, map, append_assoc}
@@ -21,23 +21,23 @@ use Rattle.cents.specs.laws.Whole.{size-+, size-*}
 use Rattle.field.specs.declared.Price.{Price}
 use Rattle.field.specs.declared.Field.{Field}
 use Rattle.field.specs.declared.Field.TheVariants.{Header, PreviousClose, Trade, Quote, End}
+use Rattle.field.specs.declared.Refusal.{Refusal}
 use Rattle.field.specs.Layout.{size_of, header_of, previous_of, trade_of, quote_of, end_of, long_header_of, field_of}
 use Rattle.field.specs.Said.{gives, refuses}
 use Rattle.field.specs.Reading.{shape_at}
 use Rattle.field.specs.laws.Field.{clash, shaped}
+use Rattle.field.specs.laws.Said.{fault_of, fault_back}
 use Rattle.field.specs.Judging.{alone}
 use Rattle.field.proofs.Sound.{Sound, price-size}
 use Rattle.market.specs.Market.{start_of, in_window}
 use Rattle.sheet.specs.declared.Day.{Day}
-use Rattle.sheet.specs.declared.Judged.{Judged}
 use Rattle.sheet.specs.Fields.{fields_at, fields_of, Each}
-use Rattle.sheet.specs.Judgement.{accepts, judge_sheet}
-use Rattle.sheet.specs.laws.Judgement.{judged-once}
+use Rattle.sheet.specs.Judgement.{Verdict, accepts, refuses-at, judge_sheet}
 use Rattle.sheet.specs.laws.Walk.{shape-grows, fields-gave, fields-stop, walk-ind}
 use Rattle.sheet.specs.laws.Accepted.{accepted-sound, accepted-small}
 use Rattle.trades.specs.declared.Total.{Total}
 use Rattle.trades.specs.declared.Traded.{Traded}
-use Rattle.trades.specs.Trades.{Deal, counts, trade_in, trades_in, lots_in, value_in, sums_of, total_of, numbers, totals_of, none, no_trades, Told}
+use Rattle.trades.specs.Trades.{Deal, counts, trade_in, trades_in, lots_in, value_in, sums_of, total_of, numbers, totals_of, none, no_trades, judged_by, totals_in, Told}
 
 -- ---- sums of two lists
 
@@ -298,8 +298,15 @@ totals-small metal fs n h l i = by_place (dec_lt i 12)
 
 -- ---- a result is one
 
-same-traded : {j k : Judged} {ts us : List Total} → j ≡ k → ts ≡ us → ◌≡◌ {A = Traded} (record { judged = j; totals = ts }) (record { judged = k; totals = us })
-same-traded e f = cc
+-- the result that has this judgement and these totals
+abbrev traded_of : Verdict → List Total → Result Traded Refusal
+traded_of (accepts day) ts = Ok (record { day = day; totals = ts })
+traded_of (refuses-at number at) ts = Err (record { fault = fault_of number; at = at })
 
-pub told-once : {s : List ℕ} {x y : Traded} → Told s x → Told s y → x ≡ y
-told-once p q = same-traded (judged-once p.judged q.judged) (once p.totals q.totals)
+traded-back : (r : Result Traded Refusal) → traded_of (judged_by r) (totals_in r) ≡ r
+traded-back (Ok traded) = refl
+traded-back (Err refusal) = simp fault_back
+
+pub told-once : {s : List ℕ} {x y : Result Traded Refusal} → Told s x → Told s y → x ≡ y
+told-once {s} {x} {y} p q =
+    sym (traded-back x) ∙ ap₂ traded_of (once p.judged q.judged) (once p.totals q.totals) ∙ traded-back y
