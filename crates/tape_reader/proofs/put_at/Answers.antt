@@ -11,11 +11,6 @@ use Rattle.tape_reader.proofs.put_at.Goals as goal
 pub put_field-requires : goal.put_field-requires
 put_field-requires c = simp (length-take, length-drop) (omega (arith, c.requires, field-length c.args.field))
 
-pub overflow_add-result : goal.overflow_add-result
-overflow_add-result c =
-    let size : c.size_of.result ≡ size_of (tag_of c.args.field) = c.size_of.ensures ∙ ap size_of c.tag_of.ensures in
-    omega (arith, size, field-length c.args.field, c.requires)
-
 pub returns : goal.returns
 returns c =
     let a = c.args in

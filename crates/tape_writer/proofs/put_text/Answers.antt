@@ -1,9 +1,6 @@
 -- `tape_writer::put_text` meets its contract. Assumes nothing.
-use Rattle.tape_writer.specs.laws.Lining.{text-fits, text-put, text-not}
+use Rattle.tape_writer.specs.laws.Lining.{text-put, text-not}
 use Rattle.tape_writer.proofs.put_text.Goals as goal
-
-pub put_lines-requires : goal.put_lines-requires
-put_lines-requires c = let a = c.args in text-fits a.sheet.now a.tape.now c.has_room.ensures c.if-has_room.true
 
 pub returns-then-has_room : goal.returns-then-has_room
 returns-then-has_room c =
