@@ -23,8 +23,8 @@ fn answers_text(closed: Closed) -> Option<Text>
 {
     let t = Text::empty();
     match closed {
-        Closed::Six(day, answers) => put_lines(put_metal(t, day.metal)?.put(b"\n")?, answers),
-        Closed::Refused(number, at) => put_refusal(t, number, at as u64),
+        Ok((day, answers)) => put_lines(put_metal(t, day.metal)?.put(b"\n")?, answers),
+        Err(refusal) => put_refusal(t, u8::from(refusal.fault), refusal.at as u64),
     }
 }
 

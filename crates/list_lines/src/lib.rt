@@ -8,7 +8,7 @@ ghost use Rattle.price_rules.specs.Says.{answer_says, closings_say};
 ghost use Rattle.list_lines.specs.Listing.{space, line, refusal, answer_items, answer_line, answer_lines};
 
 use names::{put_contract, put_method};
-use price_rules::{Answer, SixAnswers};
+use price_rules::{Answer, SixAnswers, Unpriced};
 use text::Text;
 
 // The two numbers that end a line.
@@ -30,14 +30,14 @@ fn put_answer(t: Text, answer: Answer) -> Option<Text>
     ensures { held result ≡ Has t ⊕ line (answer_items (answer_says answer)) }
 {
     match answer {
-        Answer::Priced {
-            method,
-            close,
-            lots,
-        } => put_two(put_method(t, method)?, close as u64, lots),
-        Answer::NoReference(lots) => put_refusal(t, 13, lots),
-        Answer::OutOfRange(lots) => put_refusal(t, 14, lots),
-        Answer::NotReached => put_refusal(t, 15, 0),
+        Ok(priced) => put_two(
+            put_method(t, priced.method)?,
+            priced.close as u64,
+            priced.lots,
+        ),
+        Err(Unpriced::NoReference(lots)) => put_refusal(t, 13, lots),
+        Err(Unpriced::OutOfRange(lots)) => put_refusal(t, 14, lots),
+        Err(Unpriced::NotReached) => put_refusal(t, 15, 0),
     }
 }
 

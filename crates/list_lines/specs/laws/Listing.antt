@@ -1,5 +1,5 @@
 -- A contract's line item by item, and how long a list can be. Assumes nothing.
-use Rattle.std.specs.Prelude.{ℕ, ◌+◌, ◌≤◌, ◌<◌, ◌≡◌, refl, List, [], ◌∷◌, ◌++◌, length, map, drop, get_or}
+use Rattle.std.specs.Prelude.{ℕ, ◌+◌, ◌≤◌, ◌<◌, ◌≡◌, refl, List, [], ◌∷◌, ◌++◌, length, map, drop, get_or, Result, Ok, Err}
 use Rattle.std.proofs.Common.{sym, ap, ◌∙◌, arith, add-one, append-nil, length-append, le-leb}
 use Rattle.std.proofs.Math.ListN.{drop_of_length-le}
 use Rattle.std.proofs.Math.Seq.{drop-cons}
@@ -9,9 +9,11 @@ use Rattle.text.specs.Decimal.{decimal}
 use Rattle.text.specs.laws.Decimal.{decimal-length}
 use Rattle.text.specs.Held.{Held, Has, TooLong, fit, ◌⊕◌}
 use Rattle.text.specs.laws.Held.{fit-yes, ⊕-⊕, then_none, put_short}
-use Rattle.price_rules.specs.declared.Answer.{Answer}
-use Rattle.price_rules.specs.declared.Closed.{Closed}
-use Rattle.price_rules.specs.declared.Closed.TheVariants as C
+use Rattle.price_rules.specs.declared.Priced.{Priced}
+use Rattle.price_rules.specs.declared.Unpriced.{Unpriced}
+use Rattle.field.specs.declared.Refusal.{Refusal}
+use Rattle.field.specs.Said.{fault_number}
+use Rattle.price_rules.specs.declared.SixAnswers.{SixAnswers}
 use Rattle.field.specs.declared.Field.{Field}
 use Rattle.field.specs.Judging.{third_of}
 use Rattle.sheet.specs.declared.Day.{Day}
@@ -43,11 +45,11 @@ too_long s h = simp (lt-leb (length s) 65536 h)
 -- ---- the contracts' lines, as they are put one behind the other
 
 -- what is left to be put behind the text, from a contract on
-pub record Listed (t : List ℕ) (answers : List Answer) (text : List ℕ) (contract : ℕ) : Type 0 where
+pub record Listed (t : List ℕ) (answers : List (Result Priced Unpriced)) (text : List ℕ) (contract : ℕ) : Type 0 where
   pub rest : Has t ⊕ answer_lines 0 (map answer_says answers) ≡ Has text ⊕ answer_lines contract (map answer_says (drop contract answers))
   pub short : 1 ≤ contract → length text ≤ 512
 
-module _ (t : List ℕ) (answers : List Answer) where
+module _ (t : List ℕ) (answers : List (Result Priced Unpriced)) where
   pub list-start : Listed t answers t 0
   list-start = record { rest = refl; short = λ h. absurd (omega arith) }
 
@@ -58,7 +60,7 @@ module _ (t : List ℕ) (answers : List Answer) where
         let d : drop contract answers ≡ [] = drop_of_length-le answers h in
         sym (rw d at o.rest ∙ ap fit (append-nil text) ∙ fit-yes text (o.short some))
 
-    module _ (d : Answer) (h : contract < length answers) where
+    module _ (d : Result Priced Unpriced) (h : contract < length answers) where
       left : drop contract answers ≡ get_or answers contract d ∷ drop (contract + 1) answers
       left = drop-cons answers contract d h ∙ rw add-one refl
 
@@ -99,9 +101,9 @@ unfolding list_text
 one-length number at = omega (arith, two-length number at)
 
 -- the answers of the code, and those of a sheet
-pub list_length : (r : Closed) → length (list_text (closed_says r)) ≤ 512
-list_length (C.Six day k) = six-length day (answer_says k.three) (answer_says k.m3) (answer_says k.m2) (answer_says k.m4) (answer_says k.m1) (answer_says k.cash)
-list_length (C.Refused number at) = one-length number at
+pub list_length : (r : Result (Day × SixAnswers) Refusal) → length (list_text (closed_says r)) ≤ 512
+list_length (Ok (day, k)) = six-length day (answer_says k.three) (answer_says k.m3) (answer_says k.m2) (answer_says k.m4) (answer_says k.m1) (answer_says k.cash)
+list_length (Err refusal) = one-length (fault_number refusal.fault) refusal.at
 
 answers-length : (fs : List Field) (v : Verdict) → length (list_text (answers_by fs v)) ≤ 512
 unfolding closings_of
