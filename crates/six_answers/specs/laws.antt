@@ -1,4 +1,5 @@
 pub mod Ready
 pub mod Asking
 pub mod Steps
+pub mod Apart
 pub mod State

@@ -2,25 +2,27 @@
 --     mean_by, row_by, step_by     its mean, its answer by its row, and its step of the list
 --     row_is, step_is           they are the definitions' of a day that has these numbers
 --     Summable                  the size of a sum over a window that keeps every sum within 64 bits
---     row-ruled                 the rules of a row as the code looks it up
+--     Lent                      what a contract is priced from, within the sizes that keep every sum within 64 bits
+--     row_of, row-ruled         a row of the table as it is looked up, and its rules
 -- Assumes nothing.
-use Rattle.std.specs.Prelude.{ℕ, ◌-◌, ◌≤◌, ◌<◌, ◌≡◌, Bool, ℤ, nat_abs, Option, Some}
+use Rattle.std.specs.Prelude.{ℕ, ◌-◌, ◌≤◌, ◌<◌, ◌≡◌, Bool, ℤ, nat_abs, get_or, Option, Some}
 use Rattle.std.proofs.Math.Path.{refl, sym, ap}
 use Rattle.std.proofs.Common.{◌∙◌, arith, leb-false, leb→le}
 use Rattle.std.proofs.Math.Bool.{true, false, cond}
-use mathlib.Core.List.{List}
+use mathlib.Core.List.{List, []}
 use Rattle.std.proofs.Math.Dec.{leb}
 use Rattle.market.specs.declared.Contract.{Contract}
-use Rattle.market.specs.Market.{minimum_lots, contract_of, step_of, named}
+use Rattle.market.specs.Market.{minimum_lots, contracts, contract_by, contract_of, instruments, step_of, named}
 use Rattle.market.specs.laws.Table.{below}
 use Rattle.market.specs.laws.Rules.{Ruled, ruled}
 use Rattle.trades.specs.declared.Total.{Total}
-use Rattle.twap.specs.Span.{Span, missing, sum}
+use Rattle.trades.specs.laws.Trades.{AllSmall}
+use Rattle.twap.specs.Span.{Span, missing, sum, span_says}
 use Rattle.price_rules.specs.declared.Method.TheVariants.{Vwap}
 use Rattle.price_rules.specs.declared.Mean.{Mean}
 use Rattle.price_rules.specs.declared.Sum.{Sum}
 use Rattle.price_rules.specs.Closing.{Figures, mean, twap_by, lots_of, Told, refused, answered, row_answer, Known, answer_by}
-use Rattle.price_rules.specs.laws.Adding.{Tallied, sum_by, sum_is}
+use Rattle.price_rules.specs.laws.Adding.{Tallied, paired, sum_by, sum_is}
 
 -- ---- by numbers
 
@@ -97,11 +99,22 @@ Summable (sum z) = nat_abs z ≤ 29999999700000
 pub summed-small : {span : Span} {z : ℤ} → Summable span → sum z ≡ span → nat_abs z ≤ 29999999700000
 summed-small {span} h e = rw (← e) at h
 
+-- the rows of the tables, the totals of the trades, and the sum over the window
+pub record Lent (table spreads : List (List ℕ)) (lots : List ℕ) (values : List ℤ) (span : Option ℤ) : Type 0 where
+  pub rows : table ≡ contracts
+  pub legs : spreads ≡ instruments
+  pub small : AllSmall 1048576 (paired lots values)
+  pub summable : Summable (span_says span)
+
 -- a contract has at most four VWAP instruments
 pub few : (c : ℕ) → c < 6 → (contract_of c).past - (contract_of c).first ≤ 4
 unfolding contract_of
 few c h = leb→le _ _ (below (λ c. leb ((contract_of c).past - (contract_of c).first) 4) 6 c tt h)
 
--- a row of the table as the code looks it up, and its rules
+-- a row of the table as it is looked up, and its rules
+pub row_of : (c : ℕ) {row : Contract} {table : List (List ℕ)} → row ≡ contract_by (get_or table c []) → table ≡ contracts → row ≡ contract_of c
+unfolding contract_of
+row_of c e t = e ∙ ap (λ (l : List (List ℕ)). contract_by (get_or l c [])) t
+
 pub row-ruled : (c : ℕ) {row : Contract} → row ≡ contract_of c → c < 6 → Ruled c row
 row-ruled c e h = rw e (ruled c h)

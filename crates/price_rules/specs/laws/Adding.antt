@@ -19,6 +19,23 @@ use Rattle.price_rules.specs.Closing.{Figures, applied, less_of, base_of, implie
 abbrev pub total_at : List Total → ℕ → Total
 total_at totals i = get_or totals i none
 
+-- the totals of which lots and values stand apart
+unfoldable pub paired : List ℕ → List ℤ → List Total
+paired [] [] = []
+paired [] (v ∷ vs) = record { lots = 0; value = v } ∷ paired [] vs
+paired (l ∷ ls) [] = record { lots = l; value = pos 0 } ∷ paired ls []
+paired (l ∷ ls) (v ∷ vs) = record { lots = l; value = v } ∷ paired ls vs
+
+pub paired_at : (ls : List ℕ) (vs : List ℤ) (i : ℕ) → total_at (paired ls vs) i ≡ record { lots = get_or ls i 0; value = get_or vs i (pos 0) }
+unfolding paired
+paired_at [] [] i = refl
+paired_at [] (v ∷ vs) zero = refl
+paired_at [] (v ∷ vs) (suc i) = paired_at [] vs i
+paired_at (l ∷ ls) [] zero = refl
+paired_at (l ∷ ls) [] (suc i) = paired_at ls [] i
+paired_at (l ∷ ls) (v ∷ vs) zero = refl
+paired_at (l ∷ ls) (v ∷ vs) (suc i) = paired_at ls vs i
+
 -- a sum with one instrument more
 abbrev pub add_instrument : ℕ → List ℕ → Sum → ℕ → Total → Sum
 add_instrument marks closes s i t = record { lots = s.lots + t.lots; sum = s.sum +ℤ implied_by marks closes i t.lots t.value }
@@ -56,6 +73,10 @@ implied-size marks {closes} b i times value h k =
 -- an instrument's total is within its bounds
 pub total-small : (t : Total) → Small 1048576 t → (t.lots ≤ 10485760000) × (nat_abs t.value ≤ 1048576000000000000)
 total-small t s = (omega (arith, s.lots), omega (arith, s.value))
+
+-- and so are its lots and its value where they stand apart
+pub lent-small : (ls : List ℕ) (vs : List ℤ) (i : ℕ) → Small 1048576 (total_at (paired ls vs) i) → (get_or ls i 0 ≤ 10485760000) × (nat_abs (get_or vs i (pos 0)) ≤ 1048576000000000000)
+lent-small ls vs i small = let s = rw (paired_at ls vs i) at small in (omega (arith, s.lots), omega (arith, s.value))
 
 pub within_none : Within 0 (record { lots = 0; sum = pos 0 })
 within_none = record { lots = omega arith; sum = omega arith }

@@ -3,4 +3,4 @@ use Rattle.six_answers.specs.laws.Asking.{Adding}
 use Rattle.six_answers.proofs.lots_over.Given as goal
 
 abbrev pub invariant-loop-i : goal.invariant-loop-i
-invariant-loop-i l = Adding l.book.totals l.first l.sum l.i
+invariant-loop-i l = Adding l.book.totals l.first l.past l.sum l.i

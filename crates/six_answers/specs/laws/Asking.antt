@@ -6,7 +6,7 @@
 use Prim.Native.Nat.{ℕ, zero, suc, ◌+◌, ◌-◌, ◌*◌, ◌≤◌, ◌<◌}
 use Rattle.std.specs.Prelude.{◌≡◌, Bool, cond, List, leb, ℤ, replicate, Option, None}
 use Rattle.std.proofs.Math.Path.{refl, sym}
-use Rattle.std.proofs.Common.{ap, ◌∙◌, add-one, Fits}
+use Rattle.std.proofs.Common.{ap, ◌∙◌, le_refl, add-one, Fits}
 use Rattle.std.proofs.Math.Bool.{true, false, not}
 use Rattle.std.proofs.Math.Decide.{dec_lt}
 use native.Mathlib.Omega.{arith}
@@ -20,7 +20,7 @@ use Rattle.market.specs.Market.{minimum_lots, contract_of, named}
 use Rattle.trades.specs.declared.Total.{Total}
 use Rattle.trades.specs.laws.Trades.{AllSmall}
 use Rattle.twap.specs.Span.{Sums}
-use Rattle.price_rules.specs.laws.Adding.{total_at, sum_by}
+use Rattle.price_rules.specs.laws.Adding.{total_at, total-small, sum_by}
 
 -- ---- a contract's lots
 
@@ -44,34 +44,42 @@ lots-are marks closes totals first zero = refl
 lots-are marks closes totals first (suc n) = rw (lots-are marks closes totals first n) refl
 
 -- no instrument's lots are more than the totals of a sheet can have
-pub lots-most : (totals : List Total) → AllSmall 1048576 totals → (first n : ℕ) → lots_from totals first n ≤ n * 10485760000
+abbrev pub Countable : List Total → Type 0
+Countable totals = (i : ℕ) → (total_at totals i).lots ≤ 10485760000
+
+pub countable : (totals : List Total) → AllSmall 1048576 totals → Countable totals
+countable totals small i = (total-small (total_at totals i) (small i)).0
+
+pub lots-most : (totals : List Total) → Countable totals → (first n : ℕ) → lots_from totals first n ≤ n * 10485760000
 unfolding lots_from
 lots-most totals h first zero = omega arith
-lots-most totals h first (suc n) = omega (arith, lots-most totals h first n, (h (first + n)).lots)
+lots-most totals h first (suc n) = omega (arith, lots-most totals h first n, h (first + n))
 
 -- a loop that adds them up: the sum is that of the instruments before i
-pub record Adding (totals : List Total) (first sum i : ℕ) : Type 0 where
+pub record Adding (totals : List Total) (first past sum i : ℕ) : Type 0 where
+  pub from : first ≤ i
+  pub most : i ≤ past
   pub same : sum ≡ lots_from totals first (i - first)
 
 module _ (totals : List Total) (first past : ℕ) where
-  pub adding-none : Adding totals first 0 first
-  adding-none = let none : first - first ≡ 0 = omega arith in record { same = lots-none totals first ∙ ap (lots_from totals first) (sym none) }
+  pub adding-none : first ≤ past → Adding totals first past 0 first
+  adding-none h = let none : first - first ≡ 0 = omega arith in record { from = le_refl first; most = h; same = lots-none totals first ∙ ap (lots_from totals first) (sym none) }
 
-  module _ (sum i : ℕ) (o : Adding totals first sum i) (from : first ≤ i) where
+  module _ (sum i : ℕ) (o : Adding totals first past sum i) where
     -- the instrument's place as the loop counts it
     place : first + (i - first) ≡ i
-    place = omega (arith, from)
+    place = omega (arith, o.from)
 
-    pub adding-more : {b : ℕ} → b ≡ sum + (total_at totals i).lots → Adding totals first b (i + 1)
-    adding-more e =
-        let next : i + 1 - first ≡ i - first + 1 = omega (arith, from) in
-        record { same = rw next (lots-more totals first (i - first) o.same (e ∙ ap (λ (k : ℕ). sum + (total_at totals k).lots) (sym place))) }
+    pub adding-more : i < past → {b : ℕ} → b ≡ sum + (total_at totals i).lots → Adding totals first past b (i + 1)
+    adding-more h e =
+        let next : i + 1 - first ≡ i - first + 1 = omega (arith, o.from) in
+        record { from = omega (arith, o.from); most = omega arith; same = rw next (lots-more totals first (i - first) o.same (e ∙ ap (λ (k : ℕ). sum + (total_at totals k).lots) (sym place))) }
 
-    pub adding-fits : AllSmall 1048576 totals → i < 12 → Fits w64 (sum + (total_at totals i).lots)
-    adding-fits h l = record { fits = omega (arith, o.same, from, lots-most totals h first (i - first), (h i).lots) }
+    pub adding-fits : Countable totals → past ≤ 12 → Fits w64 (sum + (total_at totals i).lots)
+    adding-fits h l = record { fits = omega (arith, o.same, o.from, o.most, lots-most totals h first (i - first), h i) }
 
-    pub adding-all : i ≡ past → sum ≡ lots_from totals first (past - first)
-    adding-all end = o.same ∙ ap (λ (k : ℕ). lots_from totals first (k - first)) end
+    pub adding-all : past ≤ i → sum ≡ lots_from totals first (past - first)
+    adding-all h = let end : i ≡ past = omega (arith, o.most) in o.same ∙ ap (λ (k : ℕ). lots_from totals first (k - first)) end
 
 -- ---- who asks
 

@@ -1,6 +1,6 @@
 -- What the code prices from: an accepted sheet and the book of its header and totals; and that this is what the definitions price from.
 -- Assumes nothing.
-use Rattle.std.specs.Prelude.{ℕ, ◌≤◌, ◌≡◌, Bool, true, false, cond, List, length}
+use Rattle.std.specs.Prelude.{ℕ, ◌≤◌, ◌≡◌, Bool, true, false, cond, List, ℤ, length}
 use Rattle.std.proofs.Common.{arith}
 use Rattle.trades.specs.declared.Total.{Total}
 use Rattle.trades.specs.Trades.{total_of, totals_of}
@@ -13,7 +13,7 @@ use Rattle.sheet.specs.laws.Led.{stood-long}
 use Rattle.sheet.specs.laws.Accepted.{accepted-stood, accepted-small, accepted-sound}
 use Rattle.price_rules.specs.declared.lent.Book.{Book}
 use Rattle.price_rules.specs.Closing.{Figures, figures_of}
-use Rattle.price_rules.specs.laws.Adding.{Tallied}
+use Rattle.price_rules.specs.laws.Adding.{Tallied, paired}
 use Rattle.contract_price.specs.laws.Numbers.{Summable}
 
 -- the sheet is accepted, and the book has the totals of its trades by the book's metal
@@ -25,6 +25,10 @@ pub record Ready (s : List ℕ) (book : Book) : Type 0 where
 abbrev pub figures_by : List ℕ → Book → Figures
 figures_by s book = figures_of book.metal book.marks book.third (fields_of s)
 
+-- the book of which lots and values stand apart
+abbrev pub book_of : (metal marks third : ℕ) (lots : List ℕ) (values : List ℤ) → AllSmall 1048576 (paired lots values) → Book
+book_of metal marks third lots values small = record { metal = metal; marks = marks; third = third; totals = paired lots values; small = small }
+
 -- no more fields than bytes
 fields-few : (s : List ℕ) → Accepted s → length (fields_of s) ≤ 1048576
 fields-few s a = omega (arith, stood-long (accepted-stood s a.day a.judged), accepted-small s a.day a.judged)
@@ -32,6 +36,9 @@ fields-few s a = omega (arith, stood-long (accepted-stood s a.day a.judged), acc
 -- the totals of an accepted sheet are as small as a book's are
 pub totals-ready : (s : List ℕ) → Accepted s → (metal : ℕ) {ts : List Total} → ts ≡ totals_of metal (fields_of s) → AllSmall 1048576 ts
 totals-ready s a metal e = rw e (totals-small metal (fields_of s) 1048576 (accepted-sound s a.day a.judged) (fields-few s a))
+
+pub ready-small : (s : List ℕ) (book : Book) → Ready s book → AllSmall 1048576 book.totals
+ready-small s book r = totals-ready s r.accepted book.metal r.totals
 
 pub ready-tallied : (s : List ℕ) (book : Book) → Ready s book → Tallied (figures_by s book) book.totals
 unfolding figures_of total_of

@@ -5,10 +5,11 @@
 -- Assumes nothing.
 use Rattle.std.specs.Prelude.{◌≡◌, refl, Bool, true, false, ◌&&◌, cond, List, [], ◌∷◌, ℕ, zero, suc, ◌+◌, ◌≤◌, ◌<◌, T, leb, eqb, length, set, replicate, ℤ, pos, negsuc, Option, Some, None, Result, Ok}
 use Rattle.std.proofs.Math.Path.{ap}
-use Rattle.std.proofs.Common.{◌∙◌, arith, leb→le, get_or-set_same, get_or-set_other}
+use Rattle.std.proofs.Common.{◌∙◌, arith, ne_eqb, leb→le, get_or-set_same, get_or-set_other}
 use Rattle.std.proofs.Math.Numerals.{add-one}
 use Rattle.std.proofs.Math.Decide.{dec_lt}
 use Rattle.std.proofs.Math.ListN.{get_or, length-set}
+use Rattle.std.proofs.lemmas.List.{set-get_or}
 use Rattle.market.specs.Market.{3M, contract_of, step_of, named}
 use Rattle.cents.specs.Round.{round}
 use Rattle.cents.specs.Close.{close_of}
@@ -99,6 +100,35 @@ known-bounded day c = (known_small day c).closes
 
 -- ---- one step of the code
 
+-- the close of an answer, 0 where it has none
+abbrev pub close_in : Told → ℕ
+close_in (close method m lots) = m
+close_in (refused number lots) = 0
+
+-- a contract that is still to be priced has no close
+with-unset : (closes : List ℕ) (c : ℕ) (a : Told) (j : ℕ) → c < j → get_or closes j 0 ≡ 0 → get_or (closes_with closes c a) j 0 ≡ 0
+with-unset closes c (close method m lots) j h e = get_or-set_other closes c j m 0 (λ f. omega arith) ∙ e
+with-unset closes c (refused number lots) j h e = e
+
+unset : (day : Figures) (c j : ℕ) → c ≤ j → get_or (known_at day c).closes j 0 ≡ 0
+unfolding known_at
+unset day zero j h = none-set 6 j
+unset day (suc c) j h = with-unset (known_at day c).closes c (answer_by day (known_at day c) c) j (omega arith) (unset day c j (omega arith))
+
+-- so that the close is what is learnt at its place, 0 where there is none
+with-is : (closes : List ℕ) (c : ℕ) (a : Told) → get_or closes c 0 ≡ 0 → set closes c (close_in a) ≡ closes_with closes c a
+with-is closes c (close method m lots) e = refl
+with-is closes c (refused number lots) e = rw e at (set-get_or closes c 0)
+
+-- no place of it goes
+with-long : (closes : List ℕ) (c : ℕ) (a : Told) → length (closes_with closes c a) ≡ length closes
+with-long closes c (close method m lots) = length-set closes c m
+with-long closes c (refused number lots) = refl
+
+-- what is known, from its parts
+abbrev pub known_by : List ℕ → Bool → Told → Known
+known_by closes stopped three = record { closes = closes; stopped = stopped; three = three }
+
 -- an array of six answers by name; what its `get_or` gives past the end is never asked
 abbrev pub at : List (Result Priced Unpriced) → ℕ → Result Priced Unpriced
 at six c = get_or six c (Ok (record { method = Vwap; close = 0; lots = 0 }))
@@ -112,15 +142,26 @@ closings-are day p q r s t u = cc
 
 -- before contract c: what is known, and the answers so far
 pub record Stands (day : Figures) (k : code.Known) (six : List (Result Priced Unpriced)) (c : ℕ) : Type 0 where
+  pub within : c ≤ 6
+  pub closes-long : length k.closes.cents ≡ 6
   pub six-long : length six ≡ 6
   pub known : known_says k ≡ known_at day c
   pub told : (j : ℕ) (d : Result Priced Unpriced) → j < c → answer_says (get_or six j d) ≡ answer_of day j
 
+-- 3M's answer, where that of contract c is written
+three-with : (six : List (Result Priced Unpriced)) (c : ℕ) (a : Result Priced Unpriced) → length six ≡ 6 → answer_says (at (set six c a) 0) ≡ cond (eqb c 3M) (answer_says a) (answer_says (at six 0))
+three-with [] c a h = absurd (omega arith)
+three-with (x ∷ l) zero a h = refl
+three-with (x ∷ l) (suc c) a h = rw (ne_eqb (suc c) 3M (λ e. omega arith)) refl
+
 pub stands-first : (day : Figures) {known : code.Known} (six : List (Result Priced Unpriced)) → length six ≡ 6 → known_says known ≡ nothing_known → Stands day known six 0
 unfolding known_at
-stands-first day six e n = record { six-long = e; known = n; told = λ j d h. absurd (omega arith) }
+stands-first day six e n = record { within = omega arith; closes-long = ap (λ (k : Known). length k.closes) n; six-long = e; known = n; told = λ j d h. absurd (omega arith) }
 
 module _ (day : Figures) {known : code.Known} {six : List (Result Priced Unpriced)} {c : ℕ} (s : Stands day known six c) where
+  pub stands-bounded : Bounded known.closes.cents
+  stands-bounded = rw (← ap (λ (k : Known). k.closes) s.known) at (known-bounded day c)
+
   module _ (a : Result Priced Unpriced) (e : answer_says a ≡ answer_by day (known_says known) c) where
     answer : answer_says a ≡ answer_of day c
     answer = e ∙ ap (λ (k : Known). answer_by day k c) s.known
@@ -132,6 +173,8 @@ module _ (day : Figures) {known : code.Known} {six : List (Result Priced Unprice
     pub stands-next : {next : code.Known} → c < 6 → known_says next ≡ learnt (known_says known) c (answer_says a) → Stands day next (set six c a) (c + 1)
     unfolding known_at
     stands-next {next} h f = record {
+      within = omega arith;
+      closes-long = ap (λ (k : Known). length k.closes) f ∙ with-long known.closes.cents c (answer_says a) ∙ s.closes-long;
       six-long = length-set six c a ∙ s.six-long;
       known = rw (add-one c) (f ∙ ap (λ (k : Known). learnt k c (answer_says a)) s.known ∙ ap (learnt (known_at day c) c) answer);
       told = λ j d l. by_place j d (dec_lt j c) l;
