@@ -3,7 +3,7 @@
 --     old-reads    where no long header stands, it reads as any reader
 --     reads_old, read-law, unread-law    the laws
 -- Assumes nothing.
-use Prim.Native.Nat.{ℕ, zero, suc, ◌+◌, ◌-◌, ◌≤◌}
+use Prim.Native.Nat.{ℕ, zero, suc, ◌-◌, ◌≤◌}
 use Rattle.std.specs.Prelude.{Bool, ◌≡◌, eqb, get_or}
 use Rattle.std.proofs.Math.Bool.{true, false, cond}
 use Rattle.std.proofs.Math.Path.{refl}
