@@ -31,7 +31,10 @@ pub loop-at-preserved : goal.loop-at-preserved
 loop-at-preserved c =
     let o = c.loop-at.invariant in
     elim c.match-field_here.branch [
-      | in-Some+in-Some-stamp_of w ↦ rw w.lines-is (pass-own _ _ _ _ o c.loop-at-test.true refl c.field_here.ensures w.in-Some.is c.requires.0 (sym w.stamp_of.ensures ∙ w.in-Some-stamp_of.is) c.bytes_of-at.ensures c.metal_of-row.ensures w.start_in.ensures w.with.ensures)
+      | in-Some+in-Some-stamp_of w ↦
+          let stamp = sym w.stamp_of.ensures ∙ w.in-Some-stamp_of.is in
+          let on = pass-on _ _ _ _ o c.loop-at-test.true refl c.field_here.ensures w.in-Some.is c.requires.0 stamp in
+          rw w.lines-is (pass-own _ _ _ _ o c.loop-at-test.true refl c.field_here.ensures w.in-Some.is stamp c.bytes_of-at.ensures on c.metal_of-row.ensures w.start_in.ensures w.with.ensures)
       | in_default w ↦ rw w.lines-is (elim w.in_default.branch [
         | in_default-via-in-None-1 v ↦ search (pass-unread, rules)
         | in_default-via-in-Some+in-None-1 v ↦ search (pass-unstamped, rules)

@@ -54,12 +54,17 @@ instrument_in (Some x) = x.instrument
 abbrev pub instrument_of : Field → ℕ
 instrument_of f = instrument_in (stamp_of f)
 
-pub stamp-is : (f : Field) {x : Stamp} → stamp_of f ≡ Some x → x.time ≡ stamp f
-stamp-is (Header metal marks form) e = clash cc
-stamp-is (PreviousClose instrument price) {x} e = let same : record { instrument = instrument; time = 0; refers = true } ≡ x = cc in sym (ap (λ (y : Stamp). y.time) same)
-stamp-is (Trade time instrument price lots) {x} e = let same : record { instrument = instrument; time = time; refers = true } ≡ x = cc in sym (ap (λ (y : Stamp). y.time) same)
-stamp-is (Quote time instrument sides bid offer) {x} e = let same : record { instrument = instrument; time = time; refers = false } ≡ x = cc in sym (ap (λ (y : Stamp). y.time) same)
-stamp-is (End count) e = clash cc
+-- the millisecond from which it counts; 0 where it has no stamp
+abbrev pub time_in : Option Stamp → ℕ
+time_in None = 0
+time_in (Some x) = x.time
+
+pub stamp-is : (f : Field) → time_in (stamp_of f) ≡ stamp f
+stamp-is (Header metal marks form) = refl
+stamp-is (PreviousClose instrument price) = refl
+stamp-is (Trade time instrument price lots) = refl
+stamp-is (Quote time instrument sides bid offer) = refl
+stamp-is (End count) = refl
 
 -- a field in its ranges is on an instrument of the twelve, where it is on one
 pub stamp-on : (f : Field) {x : Stamp} → stamp_of f ≡ Some x → Sound alone f → x.instrument < 12
@@ -391,10 +396,10 @@ pub told-now : {a b x : Bool} → a ≡ false → x ≡ b → x ≡ cond a true 
 told-now e f = rw (e, f) refl
 
 -- the line as the code puts it together
-pub line-built : (i start : ℕ) (l : Line) (f : Field) {next : Indicator} {x : Stamp} {to : ℕ} {v : Option Price} {total : ℤ} {told : Bool} → stamp_of f ≡ Some x → next ≡ taken i l.state f → to ≡ cut_at l.since (start + 300000) x.time
-    → v ≡ value_of l.state → total ≡ with_span l.total v (to - l.since) → told ≡ cond l.told true (tells start x) → ◌≡◌ {A = Line} (record { state = next; told = told; since = to; total = total }) (line_with i start l f)
+pub line-built : (i start : ℕ) (l : Line) (f : Field) {next : Indicator} {x : Option Stamp} {to : ℕ} {v : Option Price} {total : ℤ} {told : Bool} → x ≡ stamp_of f → next ≡ taken i l.state f → to ≡ cut_at l.since (start + 300000) (time_in x)
+    → v ≡ value_of l.state → total ≡ with_span l.total v (to - l.since) → told ≡ cond l.told true (field_tells start x) → ◌≡◌ {A = Line} (record { state = next; told = told; since = to; total = total }) (line_with i start l f)
 unfolding line_with
-line-built i start l f e d c g h k = rw (d, k, h, g, c, e, stamp-is f e, window-length) refl
+line-built i start l f e d c g h k = rw (d, k, h, g, c, e, stamp-is f, window-length) refl
 
 -- what it comes to, as the code tells it
 pub sum_told : (start : ℕ) (l : Line) {v : Option Price} {total : ℤ} → l.told ≡ true → v ≡ value_of l.state → total ≡ with_span l.total v (start + 300000 - l.since) → sum total ≡ line_sum start l

@@ -91,6 +91,11 @@ new-at metal (suc i) h = get_or-replicate 11 i (new_line (metal_of metal).spread
 unfoldable pub priced_of : ℕ → List ℕ → Option Field
 priced_of tag b = cond (eqb tag 3) (Some (trade_of b)) (cond (eqb tag 4) (Some (quote_of b)) (cond (eqb tag 2) (Some (previous_of b)) None))
 
+-- its stamp; none where it is none
+abbrev pub stamp_in : Option Field → Option Stamp
+stamp_in None = None
+stamp_in (Some f) = stamp_of f
+
 -- it is the field that stands there, or none, and that is of no instrument
 pub data Priced (f : Option Field) (g : Field) : Type 0 where
   same : f ≡ Some g → Priced f g
@@ -187,33 +192,38 @@ module _ (metal : ℕ) (s : List ℕ) (at : ℕ) (ls : List Line) (o : Passing m
         pub pass-on : {x : Stamp} → Filled s → stamp_of g ≡ Some x → x.instrument < 12
         pass-on filled m = stamp-on g m (rw (read h is) (pass-right (line_of metal) (new_line 0) s at ls o l filled))
 
-        -- behind a field of an instrument
-        pub pass-own : {x : Stamp} {n : ℕ} {row : Metal} {start : ℕ} {y : Line} → Filled s → stamp_of g ≡ Some x → n ≡ size_of tag → row ≡ metal_of metal → start ≡ start_in row x.instrument → y ≡ line_with x.instrument start (get_or ls x.instrument (new_line 0)) g → Passing metal s (at + n) (set ls x.instrument y)
-        pass-own {x} {start = start} filled m e w b c =
-            let j = x.instrument in
-            let on : instrument_of place.field ≡ j = ap instrument_of (sym (read h is)) ∙ ap instrument_in m in
-            let from : start ≡ start_of metal j = b ∙ ap (λ (r : Metal). start_in r j) w ∙ start-in metal j in
-            pass-next (line_of metal) (new_line 0) s at ls o l k e
-            (kept-one (line_of metal) (new_line 0) (line_step metal) (line-goes metal) o.kept place.field j (pass-on filled m)
-            (λ i m y q. step_other metal i y place.field m (λ r. q (sym on ∙ r)))
-            (c ∙ rw (from, read h is) (sym (step-own metal j (get_or ls j (new_line 0)) place.field (pass-on filled m) on))))
+        module _ {x : Stamp} (m : stamp_of g ≡ Some x) {n : ℕ} (e : n ≡ size_of tag) where
+          -- behind a field of an instrument
+          own-by : {row : Metal} {start : ℕ} {y : Line} → x.instrument < 12 → row ≡ metal_of metal → start ≡ start_in row x.instrument → y ≡ line_with x.instrument start (get_or ls x.instrument (new_line 0)) g → Priced f place.field → Passing metal s (at + n) (set ls x.instrument y)
+          own-by {start = start} on w b c p =
+              let j = x.instrument in
+              let of : instrument_of place.field ≡ j = ap instrument_of (sym (read h p)) ∙ ap instrument_in m in
+              let from : start ≡ start_of metal j = b ∙ ap (λ (r : Metal). start_in r j) w ∙ start-in metal j in
+              pass-next (line_of metal) (new_line 0) s at ls o l k e
+              (kept-one (line_of metal) (new_line 0) (line_step metal) (line-goes metal) o.kept place.field j on
+              (λ i m y q. step_other metal i y place.field m (λ r. q (sym of ∙ r)))
+              (c ∙ rw (from, read h p) (sym (step-own metal j (get_or ls j (new_line 0)) place.field on of))))
+
+          pub pass-own : {row : Metal} {start : ℕ} {y : Line} → x.instrument < 12 → row ≡ metal_of metal → start ≡ start_in row x.instrument → y ≡ line_with x.instrument start (get_or ls x.instrument (new_line 0)) g → Passing metal s (at + n) (set ls x.instrument y)
+          pass-own on w b c = own-by on w b c is
 
       -- behind a field of none
-      behind-none : {n : ℕ} → n ≡ size_of tag → instrument_of place.field ≡ 12 → Passing metal s (at + n) ls
-      behind-none e h =
-          pass-next (line_of metal) (new_line 0) s at ls o l k e
-          (kept-none (line_of metal) (new_line 0) (line_step metal) (line-goes metal) o.kept place.field
-          (λ i m y. step_other metal i y place.field m (λ p. omega (arith, h, p))))
+      module _ {x : Option Stamp} (g : x ≡ stamp_in f) {n : ℕ} (e : n ≡ size_of tag) where
+        above : 12 ≤ instrument_in x → Priced f place.field → 12 ≤ instrument_of place.field
+        above h (same p) = omega (arith, h, ap instrument_in (g ∙ ap stamp_in p))
+        above h (none p q) = omega (arith, q)
+
+        pub pass-none : 12 ≤ instrument_in x → Passing metal s (at + n) ls
+        pass-none h =
+            pass-next (line_of metal) (new_line 0) s at ls o l k e
+            (kept-none (line_of metal) (new_line 0) (line_step metal) (line-goes metal) o.kept place.field
+            (λ i m y. step_other metal i y place.field m (λ p. omega (arith, above h is, p))))
 
       pub pass-unstamped : {g : Field} {x : Option Stamp} {n : ℕ} → f ≡ Some g → x ≡ stamp_of g → x ≡ None → n ≡ size_of tag → Passing metal s (at + n) ls
-      pass-unstamped h y m e = behind-none e (ap instrument_of (sym (read h is)) ∙ ap instrument_in (sym y ∙ m))
+      pass-unstamped {x = x} h y m e = pass-none {x = x} (y ∙ sym (ap stamp_in h)) e (omega (arith, ap instrument_in m))
 
       pub pass-unread : {n : ℕ} → f ≡ None → n ≡ size_of tag → Passing metal s (at + n) ls
-      pass-unread h e = behind-none e (by is)
-        where
-          by : Priced f place.field → instrument_of place.field ≡ 12
-          by (same p) = clash cc
-          by (none p q) = q
+      pass-unread h e = pass-none {x = None} (sym (ap stamp_in h)) e (omega arith)
 
 -- ---- the loop over the lines
 

@@ -1,5 +1,5 @@
 -- `twap::Line::with` meets its contract: the sizes of a fair line keep its total within 64 bits. Assumes nothing.
-use mathlib.Core.Path.{◌≡◌, refl, ◌∙◌}
+use mathlib.Core.Path.{◌≡◌, refl, sym, ◌∙◌}
 use borrow.Author.Rules.{rules}
 use mir.Syntax.{w64}
 use mir.Val.{to_z, of_z}
@@ -18,4 +18,4 @@ returns c =
       | then-self w ↦ rw (w.result-is, w.if-self.true) refl
       | else-self w ↦ rw (w.result-is, w.if-self.false) w.tells_by.ensures
     ] in
-    line-built a.stamp.instrument a.start a.self a.field c.requires.2 c.take_field.ensures (c.clamp-to.ensures ∙ cut-clamp _ _ _ c.requires.0.to) c.value.ensures (sum ∙ rw total at c.plus.ensures) told
+    line-built a.stamp.instrument a.start a.self a.field (sym c.requires.2) c.take_field.ensures (c.clamp-to.ensures ∙ cut-clamp _ _ _ c.requires.0.to) c.value.ensures (sum ∙ rw total at c.plus.ensures) told
