@@ -52,7 +52,9 @@ fn word_at(s: &[u8], at: usize, word: &[u8]) -> Option<usize>
     }
 }
 
-// A number, in at most nine digits. The loop's end is a constant, so that the compiler writes its turns out.
+// A number, in at most nine digits. The loop's end is a constant, so that the compiler writes its turns out. This function and the three below
+// stand in line in their callers, since what they give would else be handed back through memory.
+#[inline(always)]
 fn number_at(s: &[u8], at: usize) -> Option<(u32, usize)>
     requires { at + 9 ≤ length s.now }
     ensures { IfSome result (λ r. Found s.now at 9 (decimal r.0) r.1 × (r.0 ≤ 999999999)) }
@@ -72,6 +74,7 @@ fn number_at(s: &[u8], at: usize) -> Option<(u32, usize)>
 }
 
 // Dollars with two decimals and no sign, in cents.
+#[inline(always)]
 fn amount_at(s: &[u8], at: usize) -> Option<(u32, usize)>
     requires { at + 12 ≤ length s.now }
     ensures { IfSome result (λ r. Found s.now at 12 (amount r.0) r.1 × (r.0 ≤ 999999999)) }
@@ -119,6 +122,7 @@ fn negative_zero(minus: bool, value: u32) -> bool
 }
 
 // A price. Its sign moves the place of its digits and is no branch: a processor guesses wrong where prices above and below zero take turns.
+#[inline(always)]
 fn price_at(s: &[u8], at: usize) -> Option<(Price, usize)>
     requires { at + 13 ≤ length s.now }
     ensures { IfSome result (λ r. Found s.now at 13 (price_text r.0.cents) r.1 × (unsigned_abs r.0.cents ≤ 999999999)) }
@@ -132,6 +136,7 @@ fn price_at(s: &[u8], at: usize) -> Option<(Price, usize)>
 }
 
 // A side of a quote: a price, or a dash.
+#[inline(always)]
 fn side_at(s: &[u8], at: usize) -> Option<(Option<Price>, usize)>
     requires { at + 13 ≤ length s.now }
     ensures { IfSome result (λ r. Side-found s.now at r.0 r.1) }
