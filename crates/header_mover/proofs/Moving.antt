@@ -15,8 +15,8 @@ use Rattle.field.specs.declared.Form.{Form}
 use Rattle.field.specs.declared.Form.TheVariants.{Short, Long}
 use Rattle.field.specs.declared.Field.{Field}
 use Rattle.field.specs.declared.Field.TheVariants.{Header, PreviousClose, Trade, Quote, End}
-use Rattle.field.specs.Judging.{fine, unless, also}
-use Rattle.field.specs.Layout.{tag_of, field_bytes}
+use Rattle.field.specs.Judging.{fine, unless, also, both, third_of}
+use Rattle.field.specs.Layout.{form_tag, tag_of, field_bytes}
 use Rattle.field.specs.Writing.{field_size}
 use Rattle.field.specs.laws.Field.{field-length}
 use Rattle.admit.specs.laws.Admitting.{Later}
@@ -133,6 +133,16 @@ module _ (s b : List ℕ) (day : Day) (wanted : Form) (f : Fitting s b day wante
       put_both (first ∙ ap (λ (g : Field). put (field_bytes g) b) is) (second ∙ ap₂ (put_buffer b') place whole)
 
 -- ---- the answers
+
+-- the two tests of a form
+module _ (wanted form : Form) {a b : ℕ} (e : a ≡ form_tag form) (f : b ≡ form_tag wanted) where
+  pub tag_same : a ≡ b → false ≡ movable wanted form
+  unfolding both
+  tag_same h = simp (eq-eqb (form_tag form) (form_tag wanted) (sym e ∙ h ∙ f))
+
+  pub tag-other : (a ≡ b → ⊥) → {x y : ℕ} → x ≡ third_of form → y ≡ third_of wanted → eqb x y ≡ movable wanted form
+  unfolding both
+  tag-other h g k = simp (ne_eqb (form_tag form) (form_tag wanted) (λ z. h (e ∙ z ∙ sym f)), g, k)
 
 -- made where no number is found, and else refused with it
 move-settled : (can : Bool) (t : List ℕ) (room : ℕ) → in_room room (cond can (within_limit t) (refused 19 0)) ≡ cond (eqb (move_number can (length t) room) fine) (made t) (refused (move_number can (length t) room) 0)
