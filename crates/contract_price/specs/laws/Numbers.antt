@@ -22,7 +22,7 @@ use Rattle.price_rules.specs.declared.Method.TheVariants.{Vwap}
 use Rattle.price_rules.specs.declared.Mean.{Mean}
 use Rattle.price_rules.specs.declared.Sum.{Sum}
 use Rattle.price_rules.specs.Closing.{Figures, mean, twap_by, lots_of, Told, refused, answered, row_answer, Known, answer_by}
-use Rattle.price_rules.specs.laws.Adding.{Tallied, paired, sum_by, sum_is}
+use Rattle.price_rules.specs.laws.Adding.{Tallied, sum_by, sum_is}
 
 -- ---- by numbers
 
@@ -100,10 +100,10 @@ pub summed-small : {span : Span} {z : ℤ} → Summable span → sum z ≡ span 
 summed-small {span} h e = rw (← e) at h
 
 -- the rows of the tables, the totals of the trades, and the sum over the window
-pub record Lent (table spreads : List (List ℕ)) (lots : List ℕ) (values : List ℤ) (span : Option ℤ) : Type 0 where
+pub record Lent (table spreads : List (List ℕ)) (totals : List Total) (span : Option ℤ) : Type 0 where
   pub rows : table ≡ contracts
   pub legs : spreads ≡ instruments
-  pub small : AllSmall 1048576 (paired lots values)
+  pub small : AllSmall 1048576 totals
   pub summable : Summable (span_says span)
 
 -- a contract has at most four VWAP instruments

@@ -13,7 +13,7 @@ pub overflow_mul-n : goal.overflow_mul-n
 overflow_mul-n c = search (number-wide, rules)
 
 pub overflow_add-n : goal.overflow_add-n
-overflow_add-n c = number_more _ _ c.requires _ _ c.loop-k.invariant (omega arith) _ c.in-Some.ensures
+overflow_add-n c = number_more _ _ c.requires _ _ c.loop-k.invariant (omega arith) _ c.in-Some.ensures.small
 
 pub loop-k-preserved : goal.loop-k-preserved
 loop-k-preserved c = number-next _ _ c.requires _ _ c.loop-k.invariant (omega arith) _ c.in-Some.ensures

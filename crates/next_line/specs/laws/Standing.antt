@@ -98,8 +98,8 @@ module _ (s : List ℕ) (at : ℕ) (room : at + 9 ≤ length s) where
       pub number-wide : Fits w32 (n * 10)
       number-wide = record { fits = omega (arith, o.small, eight k h) }
 
-      pub number_more : (d : ℕ) → Digit-at s (at + k) d → Fits w32 (n * 10 + d)
-      number_more d e = record { fits = omega (arith, o.small, e.small, eight k h) }
+      pub number_more : (d : ℕ) → d ≤ 9 → Fits w32 (n * 10 + d)
+      number_more d l = record { fits = omega (arith, o.small, eight k h) }
 
       pub number-next : (d : ℕ) → Digit-at s (at + k) d → OnNumber s at (n * 10 + d) (k + 1)
       number-next d e =

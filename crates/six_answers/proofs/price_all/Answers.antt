@@ -13,7 +13,7 @@ bounds-sums-row c = let r = row-ruled _ c.contract_of-row.ensures (omega arith) 
 
 pub price_one-answer-requires : goal.price_one-answer-requires
 price_one-answer-requires c =
-    (sum-lent _ _ c.requires c.some_ask.ensures _ c.sums_if-sums.ensures _ (omega arith) c.contract_of-row.ensures, omega arith)
+    ((sum-lent _ _ c.requires c.some_ask.ensures _ c.sums_if-sums.ensures _ (omega arith) c.contract_of-row.ensures refl refl).summable, omega arith)
 
 pub learn-requires : goal.learn-requires
 learn-requires c =

@@ -8,14 +8,14 @@ use Rattle.std.proofs.Common.{ap, ◌∙◌, arith}
 use mathlib.Core.List.{List, []}
 use Rattle.std.proofs.lemmas.List.{get_or-replicate}
 use Rattle.market.specs.declared.Contract.{Contract}
-use Rattle.market.specs.Market.{minimum_lots, contract_of, start_of, named}
+use Rattle.market.specs.Market.{minimum_lots, contracts, contract_of, instruments, start_of, named}
 use Rattle.market.specs.laws.Rules.{ruled}
 use Rattle.sheet.specs.Fields.{fields_of}
 use Rattle.twap.specs.Span.{span_says, span_of}
 use Rattle.price_rules.specs.Closing.{Figures, figures_of, lots_of, Known, answer_by}
 use Rattle.price_rules.specs.declared.lent.Book.{Book}
-use Rattle.contract_price.specs.laws.Numbers.{Summable, step_by, sum_over_lem, step_is}
-use Rattle.six_answers.specs.laws.Ready.{Ready, figures_by, ready-tallied, summable}
+use Rattle.contract_price.specs.laws.Numbers.{Summable, Lent, step_by, sum_over_lem, step_is}
+use Rattle.six_answers.specs.laws.Ready.{Ready, figures_by, ready-small, ready-tallied, summable}
 use Rattle.six_answers.specs.laws.Asking.{lots-are, own_lots, some_ask, unasked, Provided}
 
 module _ (s : List ℕ) (book : Book) (ready : Ready s book) {asked : Bool} (a : asked ≡ some_ask book.third book.totals 6) (r : List (Option ℤ)) (p : Provided asked book.metal (fields_of s) r) where
@@ -34,8 +34,8 @@ module _ (s : List ℕ) (book : Book) (ready : Ready s book) {asked : Bool} (a :
     twap-in : row.twap < 12
     twap-in = let t = ruled c h in rw e (omega (arith, t.among, t.inside))
 
-    pub sum-lent : Summable (span_says (handed row.twap))
-    sum-lent = sum-small row.twap twap-in
+    pub sum-lent : {table spreads : List (List ℕ)} → table ≡ contracts → spreads ≡ instruments → Lent table spreads book.totals (handed row.twap)
+    sum-lent t l = record { rows = t; legs = l; small = ready-small s book ready; summable = sum-small row.twap twap-in }
 
     -- the day's figures
     abbrev day : Figures

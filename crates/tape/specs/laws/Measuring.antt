@@ -99,13 +99,16 @@ end-long n = refl
 pub sheet-long : (fs : List Field) (n : ℕ) → length (encode (fs ++ F.End n ∷ [])) ≡ length (encode fs) + 7
 sheet-long fs n = ap length (encode_one fs (F.End n)) ∙ length-append (encode fs) (field_bytes (F.End n)) ∙ ap (λ (k : ℕ). length (encode fs) + k) (end-long n)
 
+bytes-are : (a b : ℕ) → ◌≡◌ {A = Said (Unit {0})} (gives tt a) (gives tt b) → a ≡ b
+bytes-are a b e = cc
+
 -- the bytes that were measured say whether the sheet, its end with it, is within the limit, and how long it is
 module _ (fs : List Field) (bytes : ℕ) (e : gives tt bytes ≡ measured 0 (tells fs)) where
-  bytes-are : bytes ≡ stop_at (0 + length (encode fs))
-  bytes-are = cc
+  stopped : bytes ≡ stop_at (0 + length (encode fs))
+  stopped = bytes-are _ _ e
 
   pub measured-low : bytes ≤ 1048569 → length (sheet_of fs) ≡ bytes + 7
-  measured-low h = omega (arith, bytes-are, sheet-long fs (length fs))
+  measured-low h = omega (arith, stopped, sheet-long fs (length fs))
 
   pub measured-high : 1048569 < bytes → 1048576 < length (sheet_of fs)
-  measured-high h = omega (arith, bytes-are, sheet-long fs (length fs))
+  measured-high h = omega (arith, stopped, sheet-long fs (length fs))

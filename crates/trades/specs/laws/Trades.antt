@@ -298,6 +298,9 @@ totals-small metal fs n h l i = by_place (dec_lt i 12)
 
 -- ---- a result is one
 
+same-traded : {d e : Day} {ts us : List Total} → d ≡ e → ts ≡ us → ◌≡◌ {A = Traded} (record { day = d; totals = ts }) (record { day = e; totals = us })
+same-traded e f = cc
+
 -- the result that has this judgement and these totals
 abbrev traded_of : Verdict → List Total → Result Traded Refusal
 traded_of (accepts day) ts = Ok (record { day = day; totals = ts })
