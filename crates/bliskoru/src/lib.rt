@@ -78,11 +78,13 @@ fn row_of(answer: Answer) -> [u64; 3]
     ensures { result ≡ row_of (answer_says answer) }
 {
     match answer {
-        Ok(Priced {
-            method,
-            close,
-            lots,
-        }) => [method_number(method), close.into(), lots],
+        Ok(
+            Priced {
+                method,
+                close,
+                lots,
+            },
+        ) => [method_number(method), close.into(), lots],
         Err(Unpriced::NoReference(lots)) => [13, 0, lots],
         Err(Unpriced::OutOfRange(lots)) => [14, 0, lots],
         Err(Unpriced::NotReached) => [15, 0, 0],

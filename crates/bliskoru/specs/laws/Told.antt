@@ -2,7 +2,7 @@
 --     told     what is read off an answer of the code is what is read off the definition that it meets
 -- Assumes nothing.
 use Rattle.std.specs.Prelude.{ℕ, ◌≡◌, refl, List, [], ◌∷◌, ◌++◌, ℤ, Option, Some, None, Result, Ok, Err}
-use Rattle.std.proofs.Common.{sym, ap, ◌∙◌}
+use Rattle.std.proofs.Common.{sym, ap, ◌∙◌, append_assoc, append-nil}
 use Rattle.field.specs.declared.Field.{Field}
 use Rattle.field.specs.declared.Refusal.{Refusal}
 use Rattle.field.specs.Said.{Said, fault_number, read_says, written_says}
@@ -135,4 +135,4 @@ module _ {d : Said (Unit {0})} {r : Result ℕ Refusal} (e : written_says r ≡ 
 
 pub rows_are : {a b c d e f : List ℕ} (s t u v w x : Told) → a ≡ row_of s → b ≡ row_of t → c ≡ row_of u → d ≡ row_of v → e ≡ row_of w → f ≡ row_of x
     → a ++ b ++ c ++ d ++ e ++ f ≡ rows_of (s ∷ t ∷ u ∷ v ∷ w ∷ x ∷ [])
-rows_are s t u v w x p q k l m n = rw (sym p, sym q, sym k, sym l, sym m, sym n) refl
+rows_are s t u v w x p q k l m n = rw (sym p, sym q, sym k, sym l, sym m, sym n) (simp (append_assoc, append-nil))
