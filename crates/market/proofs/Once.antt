@@ -5,6 +5,8 @@ use Rattle.market.proofs.metal_of.Reads as metal-of
 use Rattle.market.proofs.metal_of.Kinds as metal-ofK
 use Rattle.market.proofs.leg_of.Reads as leg-of
 use Rattle.market.proofs.leg_of.Kinds as leg-ofK
+use Rattle.market.proofs.leg_by.Reads as leg-by
+use Rattle.market.proofs.leg_by.Kinds as leg-byK
 use Rattle.market.proofs.start_in.Reads as start-in
 use Rattle.market.proofs.start_in.Kinds as start-inK
 use Rattle.market.proofs.start_of.Reads as start_of_lem
@@ -27,6 +29,9 @@ metal-of-once κs a x y s t p q = once p q
 
 pub leg-of-once : Once 0 leg-ofK.ps leg-ofK.r leg-of.Post (λ κs x s. x)
 leg-of-once κs a x y s t p q = once p q
+
+pub leg-by-once : Once 0 leg-byK.ps leg-byK.r leg-by.Post (λ κs x s. x)
+leg-by-once κs a x y s t p q = once p q
 
 pub start-in-once : Once 0 start-inK.ps start-inK.r start-in.Post (λ κs x s. x)
 start-in-once κs a x y s t p q = once p q

@@ -169,8 +169,8 @@ pub fn contract_of(contract: usize) -> Contract
     }
 }
 
-// Of A and B the contract that is priced first is the other leg.
-fn leg_by(a: usize, b: usize) -> Leg
+// The leg of A-B by the places of A and B in pricing order: the contract that is priced first is the other leg.
+pub fn leg_by(a: usize, b: usize) -> Leg
     ensures { result ≡ leg_by a b }
 {
     if b < a {
