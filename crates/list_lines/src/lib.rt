@@ -25,7 +25,7 @@ pub fn put_refusal(t: Text, number: u8, n: u64) -> Option<Text>
     put_two(t.put(b"refused")?, number as u64, n)
 }
 
-// What stands behind the contract on its line.
+// What stands behind the contract on its line. Why there is no close is told in its type; 13 to 15 are the numbers of RULES 9, as they are printed.
 fn put_answer(t: Text, answer: Answer) -> Option<Text>
     ensures { held result ≡ Has t ⊕ line (answer_items (answer_says answer)) }
 {
