@@ -54,6 +54,7 @@ impl<'a> Line<'a> {
         self.number(cents / 100);
         self.put(&[b'.', b'0' + tens, b'0' + units]);
     }
+
     // A minus, where the number is negative.
     fn sign(&mut self, cents: i32)
         ensures buffer { self.new.buf.ghost_name ≡ self.old.buf.ghost_name }
@@ -85,28 +86,18 @@ impl<'a> Line<'a> {
         }
     }
 
-    // A name, byte by byte: a copy from a table to a lent buffer asks a host for `memmove`.
-    fn name(&mut self, name: &[u8])
-        ensures buffer { self.new.buf.ghost_name ≡ self.old.buf.ghost_name }
-        ensures puts { Puts self.old.buf.now self.old.at name.now self.new.at self.new.buf.now }
-    {
-        for &byte in name {
-            self.put(&[byte]);
-        }
-    }
-
     fn metal(&mut self, metal: u8)
         ensures buffer { self.new.buf.ghost_name ≡ self.old.buf.ghost_name }
         ensures puts { Puts self.old.buf.now self.old.at (metal_name metal) self.new.at self.new.buf.now }
     {
-        self.name(metal_name(metal));
+        self.put(metal_name(metal).as_bytes());
     }
 
     fn instrument(&mut self, instrument: u8)
         ensures buffer { self.new.buf.ghost_name ≡ self.old.buf.ghost_name }
         ensures puts { Puts self.old.buf.now self.old.at (instrument_name instrument) self.new.at self.new.buf.now }
     {
-        self.name(instrument_name(instrument));
+        self.put(instrument_name(instrument).as_bytes());
     }
 
     // What a header's form puts behind its marks: a long one's third value.

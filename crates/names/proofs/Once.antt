@@ -1,8 +1,10 @@
--- Any two outcomes that a function's contract permits are equal: the name by value, the text's bytes with the name behind them, the number. Assumes
+-- Any two outcomes that a function's contract permits are equal: the name, its bytes, the text's bytes with the name behind them, the number. Assumes
 -- nothing.
 use Rattle.promise.specs.Once.{Once}
 use Rattle.promise.specs.laws.Once.{once}
 use Rattle.text.specs.Held.{held}
+use Rattle.names.proofs.Name.as_bytes.Reads as as-bytes
+use Rattle.names.proofs.Name.as_bytes.Kinds as as-bytesK
 use Rattle.names.proofs.metal_name.Reads as metal-name
 use Rattle.names.proofs.metal_name.Kinds as metal-nameK
 use Rattle.names.proofs.contract_name.Reads as contract-name
@@ -24,16 +26,19 @@ use Rattle.names.proofs.metal_in.Kinds as metal-inK
 use Rattle.names.proofs.instrument_in.Reads as instrument-in
 use Rattle.names.proofs.instrument_in.Kinds as instrument-inK
 
-pub metal-name-once : Once 1 metal-nameK.ps metal-nameK.r metal-name.Post (λ κs x s. x.now)
+pub as-bytes-once : Once 1 as-bytesK.ps as-bytesK.r as-bytes.Post (λ κs x s. x.now)
+as-bytes-once κs a x y s t p q = once p q
+
+pub metal-name-once : Once 0 metal-nameK.ps metal-nameK.r metal-name.Post (λ κs x s. x)
 metal-name-once κs a x y s t p q = once p q
 
-pub contract-name-once : Once 1 contract-nameK.ps contract-nameK.r contract-name.Post (λ κs x s. x.now)
+pub contract-name-once : Once 0 contract-nameK.ps contract-nameK.r contract-name.Post (λ κs x s. x)
 contract-name-once κs a x y s t p q = once p q
 
-pub instrument-name-once : Once 1 instrument-nameK.ps instrument-nameK.r instrument-name.Post (λ κs x s. x.now)
+pub instrument-name-once : Once 0 instrument-nameK.ps instrument-nameK.r instrument-name.Post (λ κs x s. x)
 instrument-name-once κs a x y s t p q = once p q
 
-pub method-name-once : Once 1 method-nameK.ps method-nameK.r method-name.Post (λ κs x s. x.now)
+pub method-name-once : Once 0 method-nameK.ps method-nameK.r method-name.Post (λ κs x s. x)
 method-name-once κs a x y s t p q = once p q
 
 pub put-metal-once : Once 0 put-metalK.ps put-metalK.r put-metal.Post (λ κs x s. held x)

@@ -1,73 +1,112 @@
 // The names on the closing list and on the tape, fixed byte strings: each by its number, put behind a text, and found by its bytes.
 #![tactic(auto)]
 
-ghost use Rattle.std.specs.Prelude.{◌≡◌, ◌≤◌};
+ghost use Rattle.std.specs.Prelude.{◌≡◌, ◌≤◌, length};
 ghost use Rattle.text.specs.Held.{Has, held, ◌⊕◌};
 ghost use Rattle.names.specs.Names.{metal_name, contract_name, instrument_name, method_name, same, metal_in, instrument_in};
 
 use price_rules::Method;
+use std::marker::Model;
 use text::Text;
+
+// A name of up to nine bytes. It is held by value, with its length: a table of references to constants would be writable data in the archive.
+#[derive(Drop)]
+pub struct Name {
+    store: [u8; 9],
+    len: usize,
+}
+
+impl Model for Name {
+    ghost use Rattle.std.specs.Prelude.{ℕ, ◌≤◌, List, take};
+
+    ghost Value = { List ℕ };
+
+    ghost view = { λ n. take n.len n.store };
+
+    ghost invariant = { λ n. n.len ≤ 9 };
+}
+
+impl Name {
+    fn of(s: &[u8]) -> Name
+        requires { length s.now ≤ 9 }
+        ensures { result ≡ s.now }
+    {
+        let mut store = [0u8; 9];
+        store[..s.len()].copy_from_slice(s);
+        Name {
+            store,
+            len: s.len(),
+        }
+    }
+
+    // Its bytes.
+    pub fn as_bytes(&self) -> &[u8]
+        ensures { result.now ≡ self.now }
+    {
+        &self.store[..self.len]
+    }
+}
 
 // The name of a metal, 1 to 5; no bytes for any other.
 #[tactic(auto, unfolding(crate::specs::Names::metal_name))]
-pub fn metal_name(metal: u8) -> &'static [u8]
-    ensures { result.now ≡ metal_name metal }
+pub fn metal_name(metal: u8) -> Name
+    ensures { result ≡ metal_name metal }
 {
     match metal {
-        1 => b"Nickel",
-        2 => b"Aluminium",
-        3 => b"Zinc",
-        4 => b"Copper",
-        5 => b"Lead",
-        _ => b"",
+        1 => Name::of(b"Nickel"),
+        2 => Name::of(b"Aluminium"),
+        3 => Name::of(b"Zinc"),
+        4 => Name::of(b"Copper"),
+        5 => Name::of(b"Lead"),
+        _ => Name::of(b""),
     }
 }
 
 // The name of a contract, 0 to 5 in pricing order; no bytes for any other.
 #[tactic(auto, unfolding(crate::specs::Names::contract_name))]
-pub fn contract_name(contract: usize) -> &'static [u8]
-    ensures { result.now ≡ contract_name contract }
+pub fn contract_name(contract: usize) -> Name
+    ensures { result ≡ contract_name contract }
 {
     match contract {
-        0 => b"3M",
-        1 => b"M3",
-        2 => b"M2",
-        3 => b"M4",
-        4 => b"M1",
-        5 => b"Cash",
-        _ => b"",
+        0 => Name::of(b"3M"),
+        1 => Name::of(b"M3"),
+        2 => Name::of(b"M2"),
+        3 => Name::of(b"M4"),
+        4 => Name::of(b"M1"),
+        5 => Name::of(b"Cash"),
+        _ => Name::of(b""),
     }
 }
 
 // The name of an instrument, 0 to 11; no bytes for any other.
 #[tactic(auto, unfolding(crate::specs::Names::instrument_name))]
-pub fn instrument_name(instrument: u8) -> &'static [u8]
-    ensures { result.now ≡ instrument_name instrument }
+pub fn instrument_name(instrument: u8) -> Name
+    ensures { result ≡ instrument_name instrument }
 {
     match instrument {
-        0 => b"3M",
-        1 => b"M3-3M",
-        2 => b"M2-3M",
-        3 => b"M2-M3",
-        4 => b"M2-M4",
-        5 => b"M3-M4",
-        6 => b"3M-M4",
-        7 => b"M1-M2",
-        8 => b"M1-M3",
-        9 => b"M1-3M",
-        10 => b"M1-M4",
-        11 => b"Cash-M1",
-        _ => b"",
+        0 => Name::of(b"3M"),
+        1 => Name::of(b"M3-3M"),
+        2 => Name::of(b"M2-3M"),
+        3 => Name::of(b"M2-M3"),
+        4 => Name::of(b"M2-M4"),
+        5 => Name::of(b"M3-M4"),
+        6 => Name::of(b"3M-M4"),
+        7 => Name::of(b"M1-M2"),
+        8 => Name::of(b"M1-M3"),
+        9 => Name::of(b"M1-3M"),
+        10 => Name::of(b"M1-M4"),
+        11 => Name::of(b"Cash-M1"),
+        _ => Name::of(b""),
     }
 }
 
 // The name of a method.
-pub fn method_name(method: Method) -> &'static [u8]
-    ensures { result.now ≡ method_name method }
+pub fn method_name(method: Method) -> Name
+    ensures { result ≡ method_name method }
 {
     match method {
-        Method::Vwap => b"VWAP",
-        Method::Twap => b"TWAP",
+        Method::Vwap => Name::of(b"VWAP"),
+        Method::Twap => Name::of(b"TWAP"),
     }
 }
 
@@ -75,19 +114,19 @@ pub fn method_name(method: Method) -> &'static [u8]
 pub fn put_metal(t: Text, metal: u8) -> Option<Text>
     ensures { held result ≡ Has t ⊕ metal_name metal }
 {
-    t.put(metal_name(metal))
+    t.put(metal_name(metal).as_bytes())
 }
 
 pub fn put_contract(t: Text, contract: usize) -> Option<Text>
     ensures { held result ≡ Has t ⊕ contract_name contract }
 {
-    t.put(contract_name(contract))
+    t.put(contract_name(contract).as_bytes())
 }
 
 pub fn put_method(t: Text, method: Method) -> Option<Text>
     ensures { held result ≡ Has t ⊕ method_name method }
 {
-    t.put(method_name(method))
+    t.put(method_name(method).as_bytes())
 }
 
 // The bytes are the name. Byte after byte and not by `==`: a tape's names are short, and the library's comparison, which is made for long runs
@@ -111,7 +150,7 @@ pub fn metal_in(s: &[u8]) -> Option<u32>
     ensures { result ≡ metal_in s.now }
 {
     (1..6u8)
-        .find(|metal| is_name(s, metal_name(*metal)))
+        .find(|metal| is_name(s, metal_name(*metal).as_bytes()))
         .map(u32::from)
 }
 
@@ -141,7 +180,7 @@ fn seek_instrument(s: &[u8]) -> Option<u32>
     ensures { result ≡ instrument_in s.now }
 {
     (0..12u8)
-        .find(|instrument| is_name(s, instrument_name(*instrument)))
+        .find(|instrument| is_name(s, instrument_name(*instrument).as_bytes()))
         .map(u32::from)
 }
 
@@ -151,12 +190,12 @@ pub fn instrument_in(s: &[u8]) -> Option<u32>
 {
     if s.len() == 5 {
         let spread = likely_spread(s[1], s[4]);
-        if is_name(s, instrument_name(spread)) {
+        if is_name(s, instrument_name(spread).as_bytes()) {
             return Some(spread as u32);
         }
     }
     if s.len() == 7 {
-        if is_name(s, instrument_name(11)) {
+        if is_name(s, instrument_name(11).as_bytes()) {
             return Some(11);
         }
     }

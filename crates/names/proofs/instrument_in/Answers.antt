@@ -1,12 +1,11 @@
 -- `names::instrument_in` meets its contract. Assumes nothing.
-use borrow.Author.Rules.{rules}
+use Rattle.std.proofs.Common.{◌∙◌, rules}
 use Rattle.names.specs.laws.Finding.{instrument-is}
 use Rattle.names.proofs.instrument_in.Goals as goal
 
-ruleset finding = (instrument-is, rules)
-
 pub returns-then-is_name : goal.returns-then-is_name
-returns-then-is_name c = search finding
+returns-then-is_name c =
+    instrument-is _ _ _ _ (c.as_bytes.ensures ∙ c.instrument_name.ensures) c.is_name.ensures c.if-is_name.true c.likely_spread-spread.ensures
 
 pub returns-then-is_name-2 : goal.returns-then-is_name-2
-returns-then-is_name-2 c = search finding
+returns-then-is_name-2 c = search (instrument-is, rules)
