@@ -51,10 +51,7 @@ pub fn hand_out<O: Print, E: Print>(
         Ok(n) => write_part(output, bytes, n),
         Err(refusal) => {
             let at = refusal.at as u64;
-            say(
-                error,
-                put_refusal(Text::empty(), refusal.fault.into(), at),
-            )
+            say(error, put_refusal(Text::empty(), refusal.fault.into(), at))
         }
     }
 }
