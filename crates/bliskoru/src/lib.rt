@@ -289,7 +289,8 @@ fn headed(metal: u8, marks: u16, form: Form) -> Field
     Field::Header { metal, marks, form }
 }
 
-// Each of the six writes one field at a place: 0 and the place behind it; or the refusal's number, and buffer and place as they were.
+// Each of the six, one for each kind of field as the C interface has them, writes one field at a place: 0 and the place behind it; or the refusal's
+// number, and buffer and place as they were.
 #[unsafe(no_mangle)]
 pub extern "C" fn bliskoru_write_header(
     buffer: &mut [u8],

@@ -7,7 +7,7 @@ use program_output::write_part;
 use std::io::{Print, Result};
 use whole_input::{read_full, room};
 
-// The list of a sheet, and an empty line.
+// The list of a sheet, and an empty line. The program `closing_list` says nothing where there is no room, and this one does.
 fn print_list<P: Print>(output: &P, sheet: &[u8]) -> Result<()> {
     let mut out = [0u8; 512];
     match closing_list(sheet, &mut out) {

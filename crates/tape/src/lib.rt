@@ -66,7 +66,8 @@ fn at_last(rest: usize, line: usize, p: Progress, bytes: u32) -> Result<u32, Ref
     Ok(bytes)
 }
 
-// Judges a text line after line: how many bytes its fields have, which stop rising at one above the limit; or what refuses it, and its line.
+// Judges a text line after line, each from the place behind the one before: how many bytes its fields have, which stop rising at one above the limit; or
+// what refuses it, and its line.
 pub fn judge_tape(text: &[u8]) -> Result<u32, Refusal>
     ensures { written_says result ≡ measured 0 (text_says text.now) }
 {

@@ -45,7 +45,8 @@ fn has_room(sheet: &[u8], room: usize) -> bool
     sheet.len() <= room / 3 || text_length(sheet) <= room
 }
 
-// The lines of a sheet's fields, from the start of the buffer on; the place behind them.
+// The lines of a sheet's fields, from the start of the buffer on; the place behind them. A loop of its own beside that of `text_length`: one for both by a
+// closure would have each step's contract written out beside it, and be longer than both.
 fn put_lines(sheet: &[u8], tape: &mut [u8]) -> usize
     requires { length (text_of (fields_of sheet.now)) ≤ length tape.old }
     ensures { (result ≡ length (text_of (fields_of sheet.now))) × (tape.new ≡ over tape.old 0 (text_of (fields_of sheet.now))) }
