@@ -20,7 +20,7 @@ fn below_offer(reference: Price, offer: Option<Price>) -> Price
     ensures { result ≡ below_offer reference offer }
 {
     match offer {
-        Some(o) if o.cents < reference.cents => o,
+        Some(o) if o < reference => o,
         _ => reference,
     }
 }
@@ -31,7 +31,7 @@ fn inside_book(reference: Price, bid: Option<Price>, offer: Option<Price>) -> Pr
 {
     match bid {
         Some(b) => {
-            if reference.cents < b.cents {
+            if reference < b {
                 return b;
             }
             below_offer(reference, offer)

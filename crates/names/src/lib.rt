@@ -47,7 +47,7 @@ impl Name {
     }
 }
 
-// The name of a metal, 1 to 5; no bytes for any other.
+// The name of a metal, 1 to 5; no bytes for any other. Metals, contracts and instruments have a table each, as their numbers and definitions do.
 #[tactic(auto, unfolding(crate::specs::Names::metal_name))]
 pub fn metal_name(metal: u8) -> Name
     ensures { result ≡ metal_name metal }

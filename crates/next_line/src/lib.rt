@@ -180,7 +180,7 @@ fn stamp_at(s: &[u8], at: usize) -> Option<(u32, u8, usize)>
     Some((time, instrument, next))
 }
 
-// A trade's line from its price on.
+// A trade's line from its price on. Trades and quotes share the pieces and not the line: theirs are of other values.
 fn trade_at(s: &[u8], at: usize, time: u32, instrument: u8) -> Option<(Field, usize)>
     requires { at + 24 ≤ length s.now }
     ensures { IfSome result (λ r. Trade-is s.now at time instrument r.0 r.1) }

@@ -39,7 +39,7 @@ fn asks_indicator(book: &Book, c: usize) -> bool
     !is_named(book.third, c) && lots_over(book, row.first, row.past) < MINIMUM_LOTS
 }
 
-// Whether one of the six is.
+// Whether one of the six is. A `for` that returns: of `any` the check finds no proof.
 fn some_ask(book: &Book) -> bool
     ensures { result ≡ some_ask book.now.third book.now.totals 6 }
 {

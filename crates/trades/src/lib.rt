@@ -82,7 +82,7 @@ fn trade_here(sheet: &[u8], at: usize) -> Field
 }
 
 // The totals of a sheet that fields fill to its end, their values in their ranges: only trades are looked into. The metal's row is looked up once, and
-// the sizes of trades and quotes stand in their branches, so that no place waits for a table.
+// the sizes of trades and quotes stand in their branches, so that no place waits for a table. A `while`: the next place is a field's size further on.
 fn totals_of(sheet: &[u8], metal: u8) -> [Total; 12]
     requires { Filled sheet.now × (length sheet.now ≤ 1048576) }
     ensures { result ≡ totals_of metal (fields_of sheet.now) }

@@ -163,7 +163,7 @@ fn field_here(sheet: &[u8], at: usize, tag: u8) -> Option<Field>
     }
 }
 
-// The twelve lines of a sheet that fields fill to its end.
+// The twelve lines of a sheet that fields fill to its end. A `while`: the next place is a field's size further on.
 fn lines_of(sheet: &[u8], metal: u8) -> [Line; 12]
     requires { Filled sheet.now × (length sheet.now ≤ 1048576) }
     ensures { Kept (line_of metal) (new_line 0) (fields_of sheet.now) result }
