@@ -10,7 +10,7 @@ ghost use Rattle.line_reader.specs.Lines.{side_text};
 ghost use Rattle.line_reader.specs.laws.Pieces.{form_text};
 ghost use Rattle.tape.specs.Tape.{line_text};
 ghost use Rattle.field.specs.declared.Field.TheVariants as F;
-ghost use Rattle.text.specs.laws.Putting.{Puts};
+ghost use Rattle.line_writer.specs.laws.Laying.{Lays};
 
 use field::{Field, Form, Price};
 use names::{instrument_name, metal_name};
@@ -26,8 +26,7 @@ struct Line<'a> {
 impl<'a> Line<'a> {
     // Bytes at the place, which is then behind them.
     fn put(&mut self, s: &[u8])
-        ensures buffer { self.new.buf.ghost_name ≡ self.old.buf.ghost_name }
-        ensures puts { Puts self.old.buf.now self.old.at s.now self.new.at self.new.buf.now }
+        ensures { Lays self.old self.new s.now }
     {
         if let Some(next) = put_bytes(self.buf, self.at, s) {
             self.at = next;
@@ -36,8 +35,7 @@ impl<'a> Line<'a> {
 
     // A number in decimal.
     fn number(&mut self, n: u32)
-        ensures buffer { self.new.buf.ghost_name ≡ self.old.buf.ghost_name }
-        ensures puts { Puts self.old.buf.now self.old.at (decimal n) self.new.at self.new.buf.now }
+        ensures { Lays self.old self.new (decimal n) }
     {
         let mut digits = [0u8; 20];
         let k = io::decimal(n as u64, &mut digits);
@@ -46,8 +44,7 @@ impl<'a> Line<'a> {
 
     // Dollars with two decimals and no sign.
     fn amount(&mut self, cents: u32)
-        ensures buffer { self.new.buf.ghost_name ≡ self.old.buf.ghost_name }
-        ensures puts { Puts self.old.buf.now self.old.at (amount cents) self.new.at self.new.buf.now }
+        ensures { Lays self.old self.new (amount cents) }
     {
         let tens = (cents / 10 % 10) as u8;
         let units = (cents % 10) as u8;
@@ -57,8 +54,7 @@ impl<'a> Line<'a> {
 
     // A minus, where the number is negative.
     fn sign(&mut self, cents: i32)
-        ensures buffer { self.new.buf.ghost_name ≡ self.old.buf.ghost_name }
-        ensures puts { Puts self.old.buf.now self.old.at (sign_of cents) self.new.at self.new.buf.now }
+        ensures { Lays self.old self.new (sign_of cents) }
     {
         if cents < 0 {
             self.put(b"-");
@@ -66,8 +62,7 @@ impl<'a> Line<'a> {
     }
 
     fn price(&mut self, price: Price)
-        ensures buffer { self.new.buf.ghost_name ≡ self.old.buf.ghost_name }
-        ensures puts { Puts self.old.buf.now self.old.at (price_text price.cents) self.new.at self.new.buf.now }
+        ensures { Lays self.old self.new (price_text price.cents) }
     {
         let cents = price.cents;
         self.sign(cents);
@@ -76,8 +71,7 @@ impl<'a> Line<'a> {
 
     // A side of a quote, or a dash.
     fn side(&mut self, present: bool, price: Price)
-        ensures buffer { self.new.buf.ghost_name ≡ self.old.buf.ghost_name }
-        ensures puts { Puts self.old.buf.now self.old.at (side_text present price) self.new.at self.new.buf.now }
+        ensures { Lays self.old self.new (side_text present price) }
     {
         if present {
             self.price(price)
@@ -87,23 +81,20 @@ impl<'a> Line<'a> {
     }
 
     fn metal(&mut self, metal: u8)
-        ensures buffer { self.new.buf.ghost_name ≡ self.old.buf.ghost_name }
-        ensures puts { Puts self.old.buf.now self.old.at (metal_name metal) self.new.at self.new.buf.now }
+        ensures { Lays self.old self.new (metal_name metal) }
     {
         self.put(metal_name(metal).as_bytes());
     }
 
     fn instrument(&mut self, instrument: u8)
-        ensures buffer { self.new.buf.ghost_name ≡ self.old.buf.ghost_name }
-        ensures puts { Puts self.old.buf.now self.old.at (instrument_name instrument) self.new.at self.new.buf.now }
+        ensures { Lays self.old self.new (instrument_name instrument) }
     {
         self.put(instrument_name(instrument).as_bytes());
     }
 
     // What a header's form puts behind its marks: a long one's third value.
     fn form(&mut self, form: Form)
-        ensures buffer { self.new.buf.ghost_name ≡ self.old.buf.ghost_name }
-        ensures puts { Puts self.old.buf.now self.old.at (form_text form) self.new.at self.new.buf.now }
+        ensures { Lays self.old self.new (form_text form) }
     {
         if let Form::Long(third) = form {
             self.put(b",");
@@ -112,8 +103,7 @@ impl<'a> Line<'a> {
     }
 
     fn header(&mut self, metal: u8, marks: u16, form: Form)
-        ensures buffer { self.new.buf.ghost_name ≡ self.old.buf.ghost_name }
-        ensures puts { Puts self.old.buf.now self.old.at (line_text (F.Header metal marks form)) self.new.at self.new.buf.now }
+        ensures { Lays self.old self.new (line_text (F.Header metal marks form)) }
     {
         self.put(b"METAL,");
         self.metal(metal);
@@ -124,8 +114,7 @@ impl<'a> Line<'a> {
     }
 
     fn previous(&mut self, instrument: u8, price: Price)
-        ensures buffer { self.new.buf.ghost_name ≡ self.old.buf.ghost_name }
-        ensures puts { Puts self.old.buf.now self.old.at (line_text (F.PreviousClose instrument price)) self.new.at self.new.buf.now }
+        ensures { Lays self.old self.new (line_text (F.PreviousClose instrument price)) }
     {
         self.put(b"PREV,");
         self.instrument(instrument);
@@ -136,8 +125,7 @@ impl<'a> Line<'a> {
 
     // The two items that trades and quotes begin with.
     fn stamp(&mut self, time: u32, instrument: u8)
-        ensures buffer { self.new.buf.ghost_name ≡ self.old.buf.ghost_name }
-        ensures puts { Puts self.old.buf.now self.old.at (decimal time ++ 44 ∷ instrument_name instrument) self.new.at self.new.buf.now }
+        ensures { Lays self.old self.new (decimal time ++ 44 ∷ instrument_name instrument) }
     {
         self.number(time);
         self.put(b",");
@@ -145,8 +133,7 @@ impl<'a> Line<'a> {
     }
 
     fn trade(&mut self, time: u32, instrument: u8, price: Price, lots: u16)
-        ensures buffer { self.new.buf.ghost_name ≡ self.old.buf.ghost_name }
-        ensures puts { Puts self.old.buf.now self.old.at (line_text (F.Trade time instrument price lots)) self.new.at self.new.buf.now }
+        ensures { Lays self.old self.new (line_text (F.Trade time instrument price lots)) }
     {
         self.stamp(time, instrument);
         self.put(b",TRADE,");
@@ -157,8 +144,7 @@ impl<'a> Line<'a> {
     }
 
     fn quote(&mut self, time: u32, instrument: u8, sides: u8, bid: Price, offer: Price)
-        ensures buffer { self.new.buf.ghost_name ≡ self.old.buf.ghost_name }
-        ensures puts { Puts self.old.buf.now self.old.at (line_text (F.Quote time instrument sides bid offer)) self.new.at self.new.buf.now }
+        ensures { Lays self.old self.new (line_text (F.Quote time instrument sides bid offer)) }
     {
         self.stamp(time, instrument);
         self.put(b",QUOTE,");
@@ -170,8 +156,7 @@ impl<'a> Line<'a> {
 
     // A field's line; an end has none.
     fn field(&mut self, field: Field)
-        ensures buffer { self.new.buf.ghost_name ≡ self.old.buf.ghost_name }
-        ensures puts { Puts self.old.buf.now self.old.at (line_text field) self.new.at self.new.buf.now }
+        ensures { Lays self.old self.new (line_text field) }
     {
         match field {
             Field::Header { metal, marks, form } => self.header(metal, marks, form),

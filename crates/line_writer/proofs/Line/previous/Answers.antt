@@ -1,9 +1,9 @@
 -- `line_writer::Line::previous` meets its contract. Assumes nothing.
-use Rattle.text.specs.laws.Putting.{then, same_bytes}
+use Rattle.line_writer.specs.laws.Laying.{then_lays, same_lays}
 use Rattle.line_reader.specs.laws.Pieces.{previous-line}
 use Rattle.tape.specs.Tape.{line_text}
 use Rattle.line_writer.proofs.Line.previous.Goals as goal
 
-pub returns-clause-puts : goal.returns-clause-puts
+pub returns : goal.returns
 unfolding line_text
-returns-clause-puts c = let a = c.args in same_bytes (previous-line a.instrument a.price) (then c.put.ensures.puts (then c.instrument.ensures.puts (then c.put-2.ensures.puts (then c.price.ensures.puts c.put-3.ensures.puts))))
+returns c = let a = c.args in same_lays (previous-line a.instrument a.price) (then_lays c.put.ensures (then_lays c.instrument.ensures (then_lays c.put-2.ensures (then_lays c.price.ensures c.put-3.ensures))))

@@ -3,16 +3,17 @@ use mathlib.Core.Path.{◌≡◌}
 use borrow.Author.Rules.{rules}
 use mir.Syntax.{w32}
 use mir.Val.{to_z, of_z}
-use Rattle.text.specs.laws.Putting.{same_bytes}
+use Rattle.line_writer.specs.laws.Laying.{same_lays}
+use Rattle.std.proofs.Math.Path.{refl}
 use Rattle.line_writer.specs.laws.Pieces.{sign-down, sign-up}
 use Rattle.line_writer.proofs.Line.sign.Goals as goal
 
-pub returns-then-cents-lt0-clause-puts : goal.returns-then-cents-lt0-clause-puts
-returns-then-cents-lt0-clause-puts c =
+pub returns-then-cents-lt0 : goal.returns-then-cents-lt0
+returns-then-cents-lt0 c =
     let cents : to_z w32 (of_z w32 c.args.cents) ≡ c.args.cents = search rules in
-    same_bytes (sign-down c.args.cents (rw cents at c.if-cents-lt0.true)) c.put.ensures.puts
+    same_lays (sign-down c.args.cents (rw cents at c.if-cents-lt0.true)) c.put.ensures
 
-pub returns-else-cents-lt0-clause-puts : goal.returns-else-cents-lt0-clause-puts
-returns-else-cents-lt0-clause-puts c =
+pub returns-else-cents-lt0 : goal.returns-else-cents-lt0
+returns-else-cents-lt0 c =
     let cents : to_z w32 (of_z w32 c.args.cents) ≡ c.args.cents = search rules in
-    sign-up c.args.cents (rw cents at c.if-cents-lt0.false)
+    record { same_loan = refl; puts = sign-up c.args.cents (rw cents at c.if-cents-lt0.false) }

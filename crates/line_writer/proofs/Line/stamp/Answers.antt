@@ -1,6 +1,6 @@
 -- `line_writer::Line::stamp` meets its contract. Assumes nothing.
-use Rattle.text.specs.laws.Putting.{then}
+use Rattle.line_writer.specs.laws.Laying.{then_lays}
 use Rattle.line_writer.proofs.Line.stamp.Goals as goal
 
-pub returns-clause-puts : goal.returns-clause-puts
-returns-clause-puts c = then c.number.ensures.puts (then c.put.ensures.puts c.instrument.ensures.puts)
+pub returns : goal.returns
+returns c = then_lays c.number.ensures (then_lays c.put.ensures c.instrument.ensures)
