@@ -5,6 +5,10 @@ use Rattle.market.proofs.metal_of.Reads as metal-of
 use Rattle.market.proofs.metal_of.Kinds as metal-ofK
 use Rattle.market.proofs.leg_of.Reads as leg-of
 use Rattle.market.proofs.leg_of.Kinds as leg-ofK
+use Rattle.market.proofs.contract_by.Reads as contract-by
+use Rattle.market.proofs.contract_by.Kinds as contract-byK
+use Rattle.market.proofs.pair_of.Reads as pair-of
+use Rattle.market.proofs.pair_of.Kinds as pair-ofK
 use Rattle.market.proofs.leg_by.Reads as leg-by
 use Rattle.market.proofs.leg_by.Kinds as leg-byK
 use Rattle.market.proofs.start_in.Reads as start-in
@@ -29,6 +33,12 @@ metal-of-once κs a x y s t p q = once p q
 
 pub leg-of-once : Once 0 leg-ofK.ps leg-ofK.r leg-of.Post (λ κs x s. x)
 leg-of-once κs a x y s t p q = once p q
+
+pub contract-by-once : Once 0 contract-byK.ps contract-byK.r contract-by.Post (λ κs x s. x)
+contract-by-once κs a x y s t p q = once p q
+
+pub pair-of-once : Once 0 pair-ofK.ps pair-ofK.r pair-of.Post (λ κs x s. x)
+pair-of-once κs a x y s t p q = once p q
 
 pub leg-by-once : Once 0 leg-byK.ps leg-byK.r leg-by.Post (λ κs x s. x)
 leg-by-once κs a x y s t p q = once p q

@@ -2,8 +2,8 @@
 #![tactic(auto)]
 
 ghost use Rattle.std.specs.Prelude.{◌≡◌, cond, eqb};
-ghost use Rattle.market.specs.Market.{metal_of, contract_of, leg_by, leg_of, start_of, in_window, marked, named, barred};
-ghost use Rattle.market.specs.laws.Rows.{start_in, bit_of, has_bit};
+ghost use Rattle.market.specs.Market.{metal_of, contract_by, contract_of, leg_by, leg_of, start_of, in_window, marked, named, barred};
+ghost use Rattle.market.specs.laws.Rows.{pair_of, start_in, bit_of, has_bit};
 
 // A metal's spread start and anchor start, in milliseconds of the day, and its 3M step, in cents.
 #[derive(Clone, Copy)]
@@ -154,18 +154,25 @@ pub fn metal_of(metal: u8) -> Metal
     }
 }
 
+// The cells of a contract's row by name.
+pub fn contract_by(row: [u8; 4]) -> Contract
+    ensures { result ≡ contract_by row }
+{
+    Contract {
+        first: row[0],
+        past: row[1],
+        twap: row[2],
+        step: row[3],
+    }
+}
+
 // The row of a contract, 0 to 5 in pricing order; of any other a row of zeros.
 pub fn contract_of(contract: usize) -> Contract
     ensures { result ≡ contract_of contract }
 {
     match contract {
         0..=5 => CONTRACTS[contract],
-        _ => Contract {
-            first: 0,
-            past: 0,
-            twap: 0,
-            step: 0,
-        },
+        _ => contract_by([0; 4]),
     }
 }
 
@@ -182,17 +189,22 @@ pub fn leg_by(a: usize, b: usize) -> Leg
     }
 }
 
+// A and B of an instrument A-B, 0 to 11, by their places in pricing order; the outright has 3M for both, and so has any other.
+pub fn pair_of(instrument: u8) -> (usize, usize)
+    ensures { result ≡ pair_of instrument }
+{
+    match instrument {
+        0..=11 => INSTRUMENTS[instrument as usize],
+        _ => (THREE_M, THREE_M),
+    }
+}
+
 // The leg of an instrument, 0 to 11; any other instrument is as the outright.
 pub fn leg_of(instrument: u8) -> Leg
     ensures { result ≡ leg_of instrument }
 {
-    match instrument {
-        0..=11 => {
-            let (a, b) = INSTRUMENTS[instrument as usize];
-            leg_by(a, b)
-        }
-        _ => Leg::Outright,
-    }
+    let (a, b) = pair_of(instrument);
+    leg_by(a, b)
 }
 
 // The start of an instrument's window by its metal's row, for who has looked that up: the anchor window for instrument 0, the spread window for all

@@ -17,6 +17,16 @@ pub window-length : window_length ≡ 300000
 unfolding window_length
 window-length = refl
 
+-- A and B of an instrument's row; an instrument with no row has 3M for both
+abbrev pub cells : List ℕ → ℕ × ℕ
+cells row = (get_or row 0 0, get_or row 1 0)
+
+abbrev pub pair_of : ℕ → ℕ × ℕ
+pair_of i = cells (get_or instruments i [])
+
+pub pair-none : (i : ℕ) → 12 ≤ i → (0, 0) ≡ pair_of i
+pair-none i h = ap cells (sym (get_or-eq_default instruments [] {n = i} (omega arith)))
+
 -- a metal's row as the code counts, and a metal with no row
 pub metal-row : (m : ℕ) → 0 < m → metal_by (get_or metals (m - 1) []) ≡ metal_of m
 unfolding metal_of
