@@ -5,19 +5,19 @@
 ghost use Rattle.std.specs.Prelude.{◌≡◌, ◌<◌};
 ghost use Rattle.twap.specs.Span.{span_says};
 ghost use Rattle.price_rules.specs.Closing.{twap_by, answered};
-ghost use Rattle.price_rules.specs.Says.{answer_says, known_says};
+ghost use Rattle.price_rules.specs.Says.{answer_says};
 ghost use Rattle.contract_price.specs.laws.Numbers.{Summable, mean_by, row_by, step_by};
 
 use cents::rounded_close;
 use market::{MINIMUM_LOTS, WINDOW, contract_of, is_marked, is_named, leg_of, step_by};
 use price_rules::{
-    Answer, Book, Closes, Known, Mean, Method, Priced, Sum, Unpriced, implied_price, vwap_sum,
+    Answer, Book, LentCloses, Mean, Method, Priced, Sum, Unpriced, implied_price, vwap_sum,
 };
 
 // The mean of the indicator over the window, applied to the other leg's close; none where there is no reference.
-fn indicator_mean(marks: u16, closes: &Closes, i: u8, span: Option<i64>) -> Option<Mean>
+fn indicator_mean(marks: u16, closes: &LentCloses<'_>, i: u8, span: Option<i64>) -> Option<Mean>
     requires { Summable (span_says span) }
-    ensures { result ≡ twap_by marks closes.now.cents i (span_says span) }
+    ensures { result ≡ twap_by marks closes.now.cents.now i (span_says span) }
 {
     let total = span?;
     let times = WINDOW as u64;
@@ -29,9 +29,15 @@ fn indicator_mean(marks: u16, closes: &Closes, i: u8, span: Option<i64>) -> Opti
 }
 
 // VWAP at the minimum of lots or more, TWAP below.
-fn mean_by_lots(marks: u16, closes: &Closes, i: u8, s: Sum, span: Option<i64>) -> Option<Mean>
+fn mean_by_lots(
+    marks: u16,
+    closes: &LentCloses<'_>,
+    i: u8,
+    s: Sum,
+    span: Option<i64>,
+) -> Option<Mean>
     requires { Summable (span_says span) }
-    ensures { result ≡ mean_by marks closes.now.cents i s (span_says span) }
+    ensures { result ≡ mean_by marks closes.now.cents.now i s (span_says span) }
 {
     if MINIMUM_LOTS <= s.lots {
         Some(Mean {
@@ -58,9 +64,9 @@ fn rounded(mean: Option<Mean>, lots: u64, step: u32) -> Answer
 }
 
 // One contract, by its row and the closes before it.
-fn answer_by_row(book: &Book, closes: &Closes, span: Option<i64>, c: usize) -> Answer
+fn answer_by_row(book: &Book, closes: &LentCloses<'_>, span: Option<i64>, c: usize) -> Answer
     requires { Summable (span_says span) × (c < 6) }
-    ensures { answer_says result ≡ row_by book.now.metal book.now.marks book.now.totals closes.now.cents (span_says span) c }
+    ensures { answer_says result ≡ row_by book.now.metal book.now.marks book.now.totals closes.now.cents.now (span_says span) c }
 {
     let row = contract_of(c);
     let s = vwap_sum(book, closes, row.first, row.past);
@@ -68,16 +74,23 @@ fn answer_by_row(book: &Book, closes: &Closes, span: Option<i64>, c: usize) -> A
     rounded(mean, s.lots, step_by(book.metal, row.step))
 }
 
-// The answer of a contract, with what is known before it: where 3M is that contract, 3M's.
-pub fn price_one(book: &Book, known: &Known, span: Option<i64>, c: usize) -> Answer
+// The answer of a contract, with what is known before it, the closes, whether a contract was refused, and 3M's answer: where 3M is that contract, 3M's.
+pub fn price_one(
+    book: &Book,
+    closes: &LentCloses<'_>,
+    stopped: bool,
+    three: Answer,
+    span: Option<i64>,
+    c: usize,
+) -> Answer
     requires { Summable (span_says span) × (c < 6) }
-    ensures { answer_says result ≡ step_by book.now.metal book.now.marks book.now.third book.now.totals (span_says span) (known_says known.now) c }
+    ensures { answer_says result ≡ step_by book.now.metal book.now.marks book.now.third book.now.totals (span_says span) (record { closes = closes.now.cents.now; stopped = stopped; three = answer_says three }) c }
 {
-    if known.stopped {
+    if stopped {
         return Err(Unpriced::NotReached);
     }
     if is_named(book.third, c) {
-        return known.three;
+        return three;
     }
-    answer_by_row(book, &known.closes, span, c)
+    answer_by_row(book, closes, span, c)
 }

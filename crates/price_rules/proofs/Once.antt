@@ -7,6 +7,8 @@ use Rattle.price_rules.proofs.Known.nothing.Reads as nothing
 use Rattle.price_rules.proofs.Known.nothing.Kinds as nothingK
 use Rattle.price_rules.proofs.Known.learn.Reads as learn
 use Rattle.price_rules.proofs.Known.learn.Kinds as learnK
+use Rattle.price_rules.proofs.lent.Closes.lent.Reads as lent
+use Rattle.price_rules.proofs.lent.Closes.lent.Kinds as lentK
 use Rattle.price_rules.proofs.implied_price.Reads as implied-price
 use Rattle.price_rules.proofs.implied_price.Kinds as implied-priceK
 use Rattle.price_rules.proofs.vwap_sum.Reads as vwap-sum
@@ -18,8 +20,11 @@ nothing-once κs a x y s t p q = once p q
 pub learn-once : Once 1 learnK.ps learnK.r learn.Post (λ κs x s. known_says s.0.now)
 learn-once κs a x y s t p q = once p q
 
-pub implied-price-once : Once 1 implied-priceK.ps implied-priceK.r implied-price.Post (λ κs x s. x)
+pub lent-once : Once 1 lentK.ps lentK.r lent.Post (λ κs x s. x.cents.now)
+lent-once κs a x y s t p q = once p q
+
+pub implied-price-once : Once 2 implied-priceK.ps implied-priceK.r implied-price.Post (λ κs x s. x)
 implied-price-once κs a x y s t p q = once p q
 
-pub vwap-sum-once : Once 2 vwap-sumK.ps vwap-sumK.r vwap-sum.Post (λ κs x s. x)
+pub vwap-sum-once : Once 3 vwap-sumK.ps vwap-sumK.r vwap-sum.Post (λ κs x s. x)
 vwap-sum-once κs a x y s t p q = once p q

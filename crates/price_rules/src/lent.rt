@@ -25,6 +25,13 @@ pub struct Closes {
     pub ghost bounded: { Bounded cents },
 }
 
+// The same, lent to a function: closes of as many contracts as there are.
+#[derive(Clone, Copy)]
+pub struct LentCloses<'a> {
+    pub cents: &'a [u32],
+    pub ghost bounded: { Bounded cents.now },
+}
+
 impl Closes {
     pub(crate) fn none() -> Self
         ensures { result.cents ≡ replicate 6 0 }
@@ -32,21 +39,10 @@ impl Closes {
         Closes { cents: [0; 6] }
     }
 
-    // A contract's close.
-    fn of(&self, contract: usize) -> u32
-        ensures { result ≡ get_or self.now.cents contract 0 }
+    pub fn lent(&self) -> LentCloses<'_>
+        ensures { result.cents.now ≡ self.now.cents }
     {
-        self.cents.get(contract).copied().unwrap_or(0)
-    }
-
-    // The other leg's close; an outright has none.
-    pub(crate) fn under(&self, leg: Leg) -> u32
-        ensures { result ≡ base_of self.now.cents leg }
-    {
-        match leg {
-            Leg::Outright => 0,
-            Leg::Over(c) | Leg::Under(c) => self.of(c),
-        }
+        LentCloses { cents: &self.cents }
     }
 
     // With a contract's close.
@@ -55,5 +51,24 @@ impl Closes {
         ensures { self.new.cents ≡ set self.old.cents contract close }
     {
         self.cents[contract] = close;
+    }
+}
+
+impl<'a> LentCloses<'a> {
+    // A contract's close.
+    fn of(&self, contract: usize) -> u32
+        ensures { result ≡ get_or self.now.cents.now contract 0 }
+    {
+        self.cents.get(contract).copied().unwrap_or(0)
+    }
+
+    // The other leg's close; an outright has none.
+    pub(crate) fn under(&self, leg: Leg) -> u32
+        ensures { result ≡ base_of self.now.cents.now leg }
+    {
+        match leg {
+            Leg::Outright => 0,
+            Leg::Over(c) | Leg::Under(c) => self.of(c),
+        }
     }
 }

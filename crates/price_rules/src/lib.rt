@@ -11,7 +11,7 @@ ghost use Rattle.price_rules.specs.laws.Adding.{Within, total_at, add_instrument
 mod lent;
 
 use field::Refusal;
-pub use lent::{Book, Closes};
+pub use lent::{Book, Closes, LentCloses};
 use market::{Leg, is_marked, leg_of};
 use sheet::Day;
 
@@ -131,18 +131,18 @@ fn apply(times: u64, close: u32, less: bool, value: i64) -> i64
 }
 
 // An instrument's part in a sum, by its leg and its mark: so many times the other leg's close, with its value as quoted.
-pub fn implied_price(closes: &Closes, leg: Leg, mark: bool, times: u64, value: i64) -> i64
+pub fn implied_price(closes: &LentCloses<'_>, leg: Leg, mark: bool, times: u64, value: i64) -> i64
     requires { (times ≤ 10485760000) × (nat_abs value ≤ 1048576000000000000) }
-    ensures { result ≡ applied (less_of leg mark) (pos (times * base_of closes.now.cents leg)) value }
+    ensures { result ≡ applied (less_of leg mark) (pos (times * base_of closes.now.cents.now leg)) value }
 {
     apply(times, closes.under(leg), less(leg, mark), value)
 }
 
 impl Sum {
     // The sum with one instrument more.
-    fn with_instrument(self, book: &Book, closes: &Closes, i: u8) -> Self
+    fn with_instrument(self, book: &Book, closes: &LentCloses<'_>, i: u8) -> Self
         requires { Within 3 self × (i < 12) }
-        ensures { result ≡ add_instrument book.now.marks closes.now.cents self i (total_at book.now.totals i) }
+        ensures { result ≡ add_instrument book.now.marks closes.now.cents.now self i (total_at book.now.totals i) }
     {
         let total = book.totals[i as usize];
         let mark = is_marked(book.marks, i);
@@ -154,9 +154,9 @@ impl Sum {
 }
 
 // The sum over the instruments from first on, below past.
-pub fn vwap_sum(book: &Book, closes: &Closes, first: u8, past: u8) -> Sum
+pub fn vwap_sum(book: &Book, closes: &LentCloses<'_>, first: u8, past: u8) -> Sum
     requires { (first ≤ past) × (past - first ≤ 4) × (past ≤ 12) }
-    ensures { result ≡ sum_by book.now.marks closes.now.cents book.now.totals first (past - first) }
+    ensures { result ≡ sum_by book.now.marks closes.now.cents.now book.now.totals first (past - first) }
 {
     let mut sum = Sum { lots: 0, sum: 0 };
     for i in first..past {

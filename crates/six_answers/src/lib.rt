@@ -74,7 +74,8 @@ fn price_all(sheet: &[u8], book: &Book) -> SixAnswers
     for c in 0..6 {
         let row = contract_of(c);
         let span = sums[row.twap as usize];
-        let answer = price_one(book, &known, span, c);
+        let closes = known.closes.lent();
+        let answer = price_one(book, &closes, known.stopped, known.three, span, c);
         known.learn(c, answer);
         six[c] = answer;
     }

@@ -26,7 +26,7 @@ returns c =
     let span : a.span ≡ Some total = c.in_ok-total.was in
     let small = summed-small c.requires (sym (ap span_says span)) in
     let size = implied-size a.marks a.closes.now.bounded a.i 300000 total (omega arith) (omega (arith, small)) in
-    let part = implied-is a.marks a.closes.now.cents a.i 300000 total c.leg_of.ensures c.is_marked.ensures (rw (read total small) at c.implied_price.ensures) in
+    let part = implied-is a.marks a.closes.now.cents.now a.i 300000 total c.leg_of.ensures c.is_marked.ensures (rw (read total small) at c.implied_price.ensures) in
     ap (λ (z : ℤ). Some (mean Twap z 300000)) (back tt (known_is part size)).known
-    ∙ ap (λ (n : ℕ). Some (mean Twap (implied_by a.marks a.closes.now.cents a.i n total) n)) (sym window-length)
-    ∙ ap (λ (x : Option ℤ). twap_by a.marks a.closes.now.cents a.i (span_says x)) (sym span)
+    ∙ ap (λ (n : ℕ). Some (mean Twap (implied_by a.marks a.closes.now.cents.now a.i n total) n)) (sym window-length)
+    ∙ ap (λ (x : Option ℤ). twap_by a.marks a.closes.now.cents.now a.i (span_says x)) (sym span)

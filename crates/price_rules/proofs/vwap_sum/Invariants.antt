@@ -4,4 +4,4 @@ use Rattle.price_rules.specs.laws.Adding.{sum_by, Within}
 use Rattle.price_rules.proofs.vwap_sum.Given as goal
 
 abbrev pub invariant-loop-i : goal.invariant-loop-i
-invariant-loop-i l = (l.sum ≡ sum_by l.book.marks l.closes.cents l.book.totals l.first (l.i - l.first)) × Within (l.i - l.first) l.sum
+invariant-loop-i l = (l.sum ≡ sum_by l.book.marks l.closes.cents.now l.book.totals l.first (l.i - l.first)) × Within (l.i - l.first) l.sum

@@ -17,11 +17,11 @@ price_one-answer-requires c =
 
 pub learn-requires : goal.learn-requires
 learn-requires c =
-    (omega arith, stands-small _ c.loop-c.invariant _ (c.price_one-answer.ensures ∙ step_of _ _ c.requires c.some_ask.ensures _ c.sums_if-sums.ensures _ (omega arith) c.contract_of-row.ensures _))
+    (omega arith, stands-small _ c.loop-c.invariant _ ((rw c.lent-closes.ensures at c.price_one-answer.ensures) ∙ step_of _ _ c.requires c.some_ask.ensures _ c.sums_if-sums.ensures _ (omega arith) c.contract_of-row.ensures _))
 
 pub loop-c-preserved : goal.loop-c-preserved
 loop-c-preserved c =
-    stands-next _ c.loop-c.invariant _ (c.price_one-answer.ensures ∙ step_of _ _ c.requires c.some_ask.ensures _ c.sums_if-sums.ensures _ (omega arith) c.contract_of-row.ensures _) (omega arith) c.learn.ensures
+    stands-next _ c.loop-c.invariant _ ((rw c.lent-closes.ensures at c.price_one-answer.ensures) ∙ step_of _ _ c.requires c.some_ask.ensures _ c.sums_if-sums.ensures _ (omega arith) c.contract_of-row.ensures _) (omega arith) c.learn.ensures
 
 pub returns : goal.returns
 returns c = stands-all _ c.loop-c.invariant (omega arith)

@@ -23,12 +23,12 @@ unfolding paired
 paired-apart [] = refl
 paired-apart (t ∷ ts) = ap (λ (us : List Total). t ∷ us) (paired-apart ts)
 
-pub ready-apart : (s : List ℕ) (book : Book) {lots : List ℕ} {values : List ℤ} → Ready s book → lots ≡ map lots_only book.totals → values ≡ map value_only book.totals → (small : AllSmall 1048576 (paired lots values)) → Ready s (book_of book.metal book.marks book.third lots values small)
-ready-apart s book r e f small = record { accepted = r.accepted; totals = rw (e, f, paired-apart book.totals) r.totals }
-
--- and they are as small as they were
+-- they are as small as they were
 pub small-apart : (book : Book) {lots : List ℕ} {values : List ℤ} → lots ≡ map lots_only book.totals → values ≡ map value_only book.totals → AllSmall 1048576 (paired lots values)
 small-apart book e f = rw (e, f, paired-apart book.totals) book.small
+
+pub ready-apart : (s : List ℕ) (book : Book) {lots : List ℕ} {values : List ℤ} → Ready s book → (e : lots ≡ map lots_only book.totals) (f : values ≡ map value_only book.totals) → Ready s (book_of book.metal book.marks book.third lots values (small-apart book e f))
+ready-apart s book r e f = record { accepted = r.accepted; totals = rw (e, f, paired-apart book.totals) r.totals }
 
 -- ---- as they are taken apart
 

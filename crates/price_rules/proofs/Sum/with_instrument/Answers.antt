@@ -26,11 +26,11 @@ both z r h p = plus (field z (omega (arith, mag-size z, h)) h) p
 pub overflow_add-result-2 : goal.overflow_add-result-2
 overflow_add-result-2 c =
     let a = c.args in
-    fits tt (both a.self.sum c.implied_price.result c.requires.0.sum (part a.book.now.marks a.closes.now.cents a.i (total_at a.book.now.totals a.i) a.closes.now.bounded (a.book.now.small a.i) c.leg_of.ensures c.is_marked-mark.ensures c.implied_price.ensures))
+    fits tt (both a.self.sum c.implied_price.result c.requires.0.sum (part a.book.now.marks a.closes.now.cents.now a.i (total_at a.book.now.totals a.i) a.closes.now.bounded (a.book.now.small a.i) c.leg_of.ensures c.is_marked-mark.ensures c.implied_price.ensures))
 
 pub returns : goal.returns
 returns c =
     let a = c.args in
     let t = total_at a.book.now.totals a.i in
     ap (λ (z : ℤ). record { lots = a.self.lots + t.lots; sum = z })
-    (back tt (both a.self.sum c.implied_price.result c.requires.0.sum (part a.book.now.marks a.closes.now.cents a.i t a.closes.now.bounded (a.book.now.small a.i) c.leg_of.ensures c.is_marked-mark.ensures c.implied_price.ensures))).known
+    (back tt (both a.self.sum c.implied_price.result c.requires.0.sum (part a.book.now.marks a.closes.now.cents.now a.i t a.closes.now.bounded (a.book.now.small a.i) c.leg_of.ensures c.is_marked-mark.ensures c.implied_price.ensures))).known
