@@ -1,5 +1,5 @@
--- Any two outcomes that a function's contract permits are equal: the name, its bytes, the text's bytes with the name behind them, the number. Assumes
--- nothing.
+-- Any two outcomes that a function's contract permits are equal: the name by value, its bytes, the text's bytes with the name behind them, the
+-- number. Assumes nothing.
 use Rattle.promise.specs.Once.{Once}
 use Rattle.promise.specs.laws.Once.{once}
 use Rattle.text.specs.Held.{held}

@@ -1,8 +1,9 @@
 -- RULES 10 and TAPE 3: the names on the closing list and on the tape, as they are printed, and the number of a name.
-use Rattle.std.specs.Prelude.{ℕ, zero, suc, Bool, true, false, cond, List, [], ◌∷◌, eqb, get_or, Option, Some, None}
+use Rattle.std.specs.Prelude.{ℕ, zero, suc, ◌-◌, Bool, true, false, cond, List, [], ◌∷◌, ◌++◌, eqb, length, get_or, replicate, Option, Some, None}
 use Rattle.text.specs.Ascii.{ascii}
 use Rattle.price_rules.specs.declared.Method.{Method}
 use Rattle.price_rules.specs.declared.Method.TheVariants.{Vwap, Twap}
+use Rattle.names.specs.declared.Name.{Name}
 
 -- the metals, 1 to 5
 abbrev pub metal_names : List (List ℕ)
@@ -64,3 +65,9 @@ metal_in s = number_of s metal_names 1
 
 unfoldable pub instrument_in : List ℕ → Option ℕ
 instrument_in s = number_of s instrument_names 0
+
+-- ---- what each answer of the code says
+
+-- a name by value: its bytes, and spaces behind them up to nine
+abbrev pub in_name : List ℕ → Name
+in_name s = record { bytes = s ++ replicate (9 - length s) 32; len = length s }

@@ -1,56 +1,46 @@
-// The names on the closing list and on the tape, fixed byte strings: each by its number, put behind a text, and found by its bytes.
+// The names on the closing list and on the tape, fixed byte strings: each by value, put behind a text, and found by its bytes.
 #![tactic(auto)]
 
-ghost use Rattle.std.specs.Prelude.{◌≡◌, ◌≤◌, length};
+ghost use Rattle.std.specs.Prelude.{◌≡◌, ◌≤◌, length, take};
 ghost use Rattle.text.specs.Held.{Has, held, ◌⊕◌};
-ghost use Rattle.names.specs.Names.{metal_name, contract_name, instrument_name, method_name, same, metal_in, instrument_in};
+ghost use Rattle.names.specs.Names.{metal_name, contract_name, instrument_name, method_name, same, metal_in, instrument_in, in_name};
 
 use price_rules::Method;
-use std::marker::Model;
 use text::Text;
 
-// A name of up to nine bytes. It is held by value, with its length: a table of references to constants would be writable data in the archive.
-#[derive(Drop)]
+// A name by value: its bytes, and spaces behind them.
+#[derive(Clone, Copy)]
 pub struct Name {
-    store: [u8; 9],
-    len: usize,
-}
-
-impl Model for Name {
-    ghost use Rattle.std.specs.Prelude.{ℕ, ◌≤◌, List, take};
-
-    ghost Value = { List ℕ };
-
-    ghost view = { λ n. take n.len n.store };
-
-    ghost invariant = { λ n. n.len ≤ 9 };
+    pub bytes: [u8; 9],
+    pub len: usize,
 }
 
 impl Name {
     fn of(s: &[u8]) -> Name
         requires { length s.now ≤ 9 }
-        ensures { result ≡ s.now }
+        ensures { result ≡ in_name s.now }
     {
-        let mut store = [0u8; 9];
-        store[..s.len()].copy_from_slice(s);
+        let mut bytes = [32u8; 9];
+        bytes[..s.len()].copy_from_slice(s);
         Name {
-            store,
+            bytes,
             len: s.len(),
         }
     }
 
-    // Its bytes.
+    // Its bytes, without the spaces. The length is asked for here: the type promises nothing of it, since anyone can make a name.
     pub fn as_bytes(&self) -> &[u8]
-        ensures { result.now ≡ self.now }
+        requires { self.now.len ≤ 9 }
+        ensures { result.now ≡ take self.now.len self.now.bytes }
     {
-        &self.store[..self.len]
+        &self.bytes[..self.len]
     }
 }
 
 // The name of a metal, 1 to 5; no bytes for any other. Metals, contracts and instruments have a table each, as their numbers and definitions do.
 #[tactic(auto, unfolding(crate::specs::Names::metal_name))]
 pub fn metal_name(metal: u8) -> Name
-    ensures { result ≡ metal_name metal }
+    ensures { result ≡ in_name (metal_name metal) }
 {
     match metal {
         1 => Name::of(b"Nickel"),
@@ -65,7 +55,7 @@ pub fn metal_name(metal: u8) -> Name
 // The name of a contract, 0 to 5 in pricing order; no bytes for any other.
 #[tactic(auto, unfolding(crate::specs::Names::contract_name))]
 pub fn contract_name(contract: usize) -> Name
-    ensures { result ≡ contract_name contract }
+    ensures { result ≡ in_name (contract_name contract) }
 {
     match contract {
         0 => Name::of(b"3M"),
@@ -81,7 +71,7 @@ pub fn contract_name(contract: usize) -> Name
 // The name of an instrument, 0 to 11; no bytes for any other.
 #[tactic(auto, unfolding(crate::specs::Names::instrument_name))]
 pub fn instrument_name(instrument: u8) -> Name
-    ensures { result ≡ instrument_name instrument }
+    ensures { result ≡ in_name (instrument_name instrument) }
 {
     match instrument {
         0 => Name::of(b"3M"),
@@ -102,7 +92,7 @@ pub fn instrument_name(instrument: u8) -> Name
 
 // The name of a method.
 pub fn method_name(method: Method) -> Name
-    ensures { result ≡ method_name method }
+    ensures { result ≡ in_name (method_name method) }
 {
     match method {
         Method::Vwap => Name::of(b"VWAP"),

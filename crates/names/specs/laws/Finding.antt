@@ -1,5 +1,5 @@
 -- A name is found by its number, and a number by its name. Assumes nothing.
-use Rattle.std.specs.Prelude.{ℕ, zero, suc, ◌+◌, ◌-◌, ◌≤◌, ◌<◌, Bool, true, false, cond, ◌≡◌, List, [], ◌∷◌, T, eqb, get_or, drop, Option, Some, None}
+use Rattle.std.specs.Prelude.{ℕ, zero, suc, ◌+◌, ◌-◌, ◌≤◌, ◌<◌, Bool, true, false, cond, ◌≡◌, List, [], ◌∷◌, T, eqb, get_or, take, drop, Option, Some, None}
 use Rattle.std.proofs.Math.Path.{refl}
 use Rattle.std.proofs.Common.{sym, ap, ◌∙◌, arith, add-one, eq-eqb, ne_eqb, eqb-true}
 use Rattle.std.proofs.Math.ListN.{length, drop_of_length-le}
@@ -7,8 +7,9 @@ use Rattle.std.proofs.Math.Seq.{drop-cons}
 use Rattle.numerals.specs.laws.Lacks.{lacks}
 use Rattle.numerals.specs.laws.Numerals.{clash}
 use Rattle.market.specs.laws.Table.{both, both_left, both_right, below, from_one}
-use Rattle.names.specs.Names.{metal_names, metal_name, instrument_names, instrument_name, same, number_of, metal_in, instrument_in}
-use Rattle.names.specs.laws.Names.{name-short, metal-length, instrument-length}
+use Rattle.names.specs.declared.Name.{Name}
+use Rattle.names.specs.Names.{metal_names, metal_name, instrument_names, instrument_name, same, number_of, metal_in, instrument_in, in_name}
+use Rattle.names.specs.laws.Names.{name-bytes, name-short, metal-length, instrument-length}
 
 -- ---- the same bytes
 
@@ -97,15 +98,15 @@ pub seek-instrument : (i : ℕ) → 0 ≤ i → instrument_name i ≡ get_or ins
 unfolding instrument_name
 seek-instrument i h = let z : i ≡ i - 0 = omega arith in ap (λ (k : ℕ). get_or instrument_names k []) z
 
--- what a comparison with a name says of the table's name
-compared : (row name s held : List ℕ) (r : Bool) → row ≡ name → held ≡ row → r ≡ same held s → same name s ≡ r
-compared row name s held r e h q = sym (q ∙ ap (λ n. same n s) (h ∙ e))
+-- what a comparison with a name by value says of the table's name
+compared : (row name s : List ℕ) (held : Name) (r : Bool) → row ≡ name → held ≡ in_name row → r ≡ same (take held.len held.bytes) s → same name s ≡ r
+compared row name s held r e h q = sym (q ∙ ap (λ n. same n s) (name-bytes row held h ∙ e))
 
 -- a turn of the code, for a table whose names are given by number
 module _ (names : List (List ℕ)) (from : ℕ) (name : ℕ → List ℕ) (row : (k : ℕ) → from ≤ k → name k ≡ get_or names (k - from) []) where
-  module _ (s : List ℕ) (k : ℕ) (o : Seeking names from s k) (h : k < from + length names) (n : List ℕ) (r : Bool) (e : n ≡ name k) (q : r ≡ same n s) where
+  module _ (s : List ℕ) (k : ℕ) (o : Seeking names from s k) (h : k < from + length names) (held : Name) (r : Bool) (e : held ≡ in_name (name k)) (q : r ≡ same (take held.len held.bytes) s) where
     asked : same (get_or names (k - from) []) s ≡ r
-    asked = compared (name k) _ s n r (row k o.least) e q
+    asked = compared (name k) _ s held r (row k o.least) e q
 
     pub turn-found : r ≡ true → Some k ≡ number_of s names from
     turn-found d = seek_found names from s k o h (asked ∙ d)
@@ -181,13 +182,13 @@ pub metal-known : (m : ℕ) → 1 ≤ m → m ≤ 5 → Known (metal_in (metal_n
 unfolding metal_in metal_name same
 metal-known m l h = known (metal_in (metal_name m)) (metal_name m) m (from_one (λ m. knows (metal_in (metal_name m)) (metal_name m) m) 5 m tt l h)
 
--- so the bytes of a known name have its number
-pub instrument-is : (i : ℕ) (s n : List ℕ) (r : Bool) → n ≡ instrument_name i → r ≡ same n s → r ≡ true → i ≤ 11 → Some i ≡ instrument_in s
-instrument-is i s n r h q e l = sym (instrument-known i l).found ∙ ap instrument_in (same-is (instrument_name i) s (compared (instrument_name i) _ s n r refl h q ∙ e))
+-- so the bytes of a known name have its number, as the code compares them with a name by value
+pub instrument-is : (i : ℕ) (s : List ℕ) (held : Name) (r : Bool) → held ≡ in_name (instrument_name i) → r ≡ same (take held.len held.bytes) s → r ≡ true → i ≤ 11 → Some i ≡ instrument_in s
+instrument-is i s held r h q e l = sym (instrument-known i l).found ∙ ap instrument_in (same-is (instrument_name i) s (compared (instrument_name i) _ s held r refl h q ∙ e))
 
--- how long a name is
-pub instrument-short : (i : ℕ) (held : List ℕ) → held ≡ instrument_name i → length held ≤ 9
+-- how long a name by value is
+pub instrument-short : (i : ℕ) (held : Name) → held ≡ in_name (instrument_name i) → held.len ≤ 9
 instrument-short i held h = name-short (instrument_name i) held h (omega (arith, instrument-length i))
 
-pub metal-short : (m : ℕ) (held : List ℕ) → held ≡ metal_name m → length held ≤ 9
+pub metal-short : (m : ℕ) (held : Name) → held ≡ in_name (metal_name m) → held.len ≤ 9
 metal-short m held h = name-short (metal_name m) held h (metal-length m)

@@ -8,7 +8,8 @@ use Rattle.field.specs.Judging.{header_right}
 use Rattle.field.proofs.Sound.{metal-range}
 use Rattle.price_rules.specs.declared.Method.{Method}
 use Rattle.price_rules.specs.declared.Method.TheVariants.{Vwap, Twap}
-use Rattle.names.specs.Names.{metal_names, metal_name, contract_names, contract_name, instrument_names, instrument_name, method_name}
+use Rattle.names.specs.declared.Name.{Name}
+use Rattle.names.specs.Names.{metal_names, metal_name, contract_names, contract_name, instrument_names, instrument_name, method_name, in_name}
 
 -- ---- numbers that have no name, as the last arm of a `match` says that a number is none of the others
 
@@ -27,7 +28,7 @@ instrument-none i h =
     let low : 6 ≤ i = omega (arith, h.0.0.0.0.0.0.0.0.0.0.0.1, h.0.0.0.0.0.0.0.0.0.0.1, h.0.0.0.0.0.0.0.0.0.1, h.0.0.0.0.0.0.0.0.1, h.0.0.0.0.0.0.0.1, h.0.0.0.0.0.0.1) in
     sym (get_or-eq_default instrument_names [] {n = i} (omega (arith, h.0.0.0.0.0.1, h.0.0.0.0.1, h.0.0.0.1, h.0.0.1, h.0.1, h.1)))
 
--- ---- names with spaces behind them, up to nine bytes
+-- ---- names by value
 
 -- bytes that are all a space
 abbrev blank : ℕ → List ℕ
@@ -38,16 +39,15 @@ spaces zero n = let z : n ≡ n - 0 = omega arith in ap blank z
 spaces (suc k) zero = let z : 0 ≡ 0 - suc k = omega arith in ap blank z
 spaces (suc k) (suc n) = let z : n - k ≡ suc n - suc k = omega arith in spaces k n ∙ ap blank z
 
--- bytes copied over nine spaces are a name and spaces behind it, and its length
-pub laid : (s out : List ℕ) (len : ℕ) → len ≡ length s → out ≡ take (length s) s ++ drop (length s) (blank 9) → (out ≡ s ++ blank (9 - length s)) × (len ≡ length s)
-laid s out len e f = (f ∙ simp (take-length, spaces), e)
+-- bytes copied over nine spaces are a name by value
+pub laid : (s out : List ℕ) (len : ℕ) → len ≡ length s → out ≡ take (length s) s ++ drop (length s) (blank 9) → ◌≡◌ {A = Name} (record { bytes = out; len = len }) (in_name s)
+laid s out len e f = let g : out ≡ s ++ blank (9 - length s) = f ∙ simp (take-length, spaces) in simp (e, g)
 
 -- and give the bytes back
-pub name-bytes : (s bytes : List ℕ) (len : ℕ) → bytes ≡ s ++ blank (9 - length s) → len ≡ length s → take len bytes ≡ s
-name-bytes s bytes len e f = simp (e, f) (take-append_seam s (blank (9 - length s)))
+pub name-bytes : (s : List ℕ) (name : Name) → name ≡ in_name s → take name.len name.bytes ≡ s
+name-bytes s name e = simp e (take-append_seam s (blank (9 - length s)))
 
--- bytes that are a name are no longer than it can be
-pub name-short : (s name : List ℕ) → name ≡ s → length s ≤ 9 → length name ≤ 9
+pub name-short : (s : List ℕ) (name : Name) → name ≡ in_name s → length s ≤ 9 → name.len ≤ 9
 name-short s name e h = simp e h
 
 -- ---- lengths
