@@ -68,5 +68,5 @@ pub fn put4(part: &mut [u8], x: u32)
 pub fn put_signed(part: &mut [u8], z: i32)
     ensures { part.new ≡ put (signed_bytes z) part.old }
 {
-    put4(part, z.cast_unsigned());
+    put4(part, bits_of(z));
 }
