@@ -1,14 +1,14 @@
 // A whole day sheet: accepted, with the header's values and the number of fields, or one refusal with its byte. Its laws serve every pass over a
 // sheet's bytes.
-#![tactic(auto, unfolding(crate::specs::Judgement::at_end, crate::specs::laws::Past::size_by, field::specs::Judging::both))]
+#![tactic(auto, unfolding(crate::specs::Judgement::at_end, crate::specs::laws::Past::size_by, crate::specs::laws::Past::form_in, field::specs::Judging::both))]
 
-ghost use Rattle.std.specs.Prelude.{◌≡◌, ◌+◌, ◌<◌, ◌≤◌, length, get_or, IfSome};
+ghost use Rattle.std.specs.Prelude.{◌≡◌, ◌+◌, ◌<◌, ◌≤◌, length, get_or, IfSome, IfNone, Some};
 ghost use Rattle.wire.specs.Big.{be2_at, be4_at};
 ghost use Rattle.field.specs.Judging.{both, third_of, allowed};
 ghost use Rattle.admit.specs.Admitting.{start, after_header, previous_placed};
 ghost use Rattle.sheet.specs.Judgement.{at_end, judge_sheet, judged_says};
 ghost use Rattle.sheet.specs.laws.Track.{OnTrack};
-ghost use Rattle.sheet.specs.laws.Past.{some_size, right_size, record_size, Opened, Nearly};
+ghost use Rattle.sheet.specs.laws.Past.{size_by, form_in, some_size, right_size, record_size, Opened, Nearly};
 
 use admit::{
     Admitted, Progress, admit, after_header, after_previous, after_record, begin, previous_placed,
@@ -63,6 +63,31 @@ fn number_behind(sheet: &[u8], at: usize) -> u32
     join4(sheet[at + 3], sheet[at + 4], sheet[at + 5], sheet[at + 6])
 }
 
+// How many bytes a right header at the sheet's start has, by its form.
+fn header_size(sheet: &[u8]) -> Option<usize>
+    ensures { result ≡ some_size (size_by 1 6 sheet.now 0) }
+{
+    if right_at::<{ layout::HEADER }>(sheet, 0) {
+        Some(6)
+    } else if right_at::<{ layout::LONG_HEADER }>(sheet, 0) {
+        Some(7)
+    } else {
+        None
+    }
+}
+
+// The form of a header of so many bytes at the sheet's start.
+fn header_form(sheet: &[u8], size: usize) -> Form
+    requires { size ≤ length sheet.now }
+    ensures { result ≡ form_in sheet.now size }
+{
+    if size == 7 {
+        Form::Long(sheet[6])
+    } else {
+        Form::Short
+    }
+}
+
 // What is kept behind a header of this form at the sheet's start.
 fn header_kept(sheet: &[u8], form: Form) -> Progress
     requires { 6 ≤ length sheet.now }
@@ -71,20 +96,16 @@ fn header_kept(sheet: &[u8], form: Form) -> Progress
     after_header(begin(), sheet[3], join2(sheet[4], sheet[5]), form)
 }
 
-// Behind the right header at the sheet's start, where one stands there.
+// Behind the right header at the sheet's start, and nowhere else; none where none stands there.
 fn past_header(sheet: &[u8]) -> Option<Reached>
     requires { length sheet.now ≤ 1048576 }
-    ensures { IfSome result (λ r. Opened sheet.now r.at r.progress) }
+    ensures opened { IfSome result (λ r. Opened sheet.now r.at r.progress) }
+    ensures behind { IfSome result (λ r. Some r.at ≡ some_size (size_by 1 6 sheet.now 0)) }
+    ensures nothing { IfNone result (size_by 1 6 sheet.now 0 ≡ 0) }
 {
-    if right_at::<{ layout::HEADER }>(sheet, 0) {
-        let progress = header_kept(sheet, Form::Short);
-        return Some(Reached { at: 6, progress });
-    }
-    if right_at::<{ layout::LONG_HEADER }>(sheet, 0) {
-        let progress = header_kept(sheet, Form::Long(sheet[6]));
-        return Some(Reached { at: 7, progress });
-    }
-    None
+    let at = header_size(sheet)?;
+    let progress = header_kept(sheet, header_form(sheet, at));
+    Some(Reached { at, progress })
 }
 
 // The header bars no field on the instrument.

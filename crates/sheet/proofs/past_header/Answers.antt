@@ -1,20 +1,14 @@
 -- `sheet::past_header` meets its contract. Assumes nothing.
-use native.Mathlib.Omega.{arith}
-use borrow.Author.Rules.{rules}
-use Rattle.sheet.specs.laws.Past.{right-whole, short-opened, long-opened}
+use Rattle.sheet.specs.laws.Past.{size-some, header-inside, header-whole, opened}
 use Rattle.sheet.proofs.past_header.Goals as goal
 
+pub header_form-requires : goal.header_form-requires
+header_form-requires c = let some = size-some _ c.in_ok-at.ensures in header-inside _ some.0 some.1
+
 pub header_kept-progress-requires : goal.header_kept-progress-requires
-header_kept-progress-requires c = omega (arith, right-whole _ 0 1 c.right_at.ensures c.if-right_at.true)
+header_kept-progress-requires c = let some = size-some _ c.in_ok-at.ensures in header-whole _ some.0 some.1
 
-pub returns-then-right_at : goal.returns-then-right_at
-returns-then-right_at c = search (short-opened, rules)
-
-pub bounds-sheet-6 : goal.bounds-sheet-6
-bounds-sheet-6 c = omega (arith, right-whole _ 0 6 c.right_at-2.ensures c.if-right_at-2.true)
-
-pub header_kept-progress-requires-then-right_at-2 : goal.header_kept-progress-requires-then-right_at-2
-header_kept-progress-requires-then-right_at-2 c = omega (arith, right-whole _ 0 6 c.right_at-2.ensures c.if-right_at-2.true)
-
-pub returns-then-right_at-2 : goal.returns-then-right_at-2
-returns-then-right_at-2 c = search (long-opened, rules)
+pub returns-clause-opened : goal.returns-clause-opened
+returns-clause-opened c =
+    let some = size-some _ c.in_ok-at.ensures in
+    opened _ some.0 some.1 c.requires c.header_form.ensures c.header_kept-progress.ensures
