@@ -17,7 +17,7 @@ use Rattle.price_rules.proofs.vwap_sum.Kinds as vwap-sumK
 pub nothing-once : Once 0 nothingK.ps nothingK.r nothing.Post (λ κs x s. known_says x)
 nothing-once κs a x y s t p q = once p q
 
-pub learn-once : Once 1 learnK.ps learnK.r learn.Post (λ κs x s. known_says s.0.now)
+pub learn-once : Once 0 learnK.ps learnK.r learn.Post (λ κs x s. known_says x)
 learn-once κs a x y s t p q = once p q
 
 pub lent-once : Once 1 lentK.ps lentK.r lent.Post (λ κs x s. x.cents.now)

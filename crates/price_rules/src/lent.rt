@@ -46,11 +46,13 @@ impl Closes {
     }
 
     // With a contract's close.
-    pub(crate) fn establish(&mut self, contract: usize, close: u32)
+    pub(crate) fn establish(self, contract: usize, close: u32) -> Self
         requires { (contract < 6) × (close ≤ 99999999) }
-        ensures { self.new.cents ≡ set self.old.cents contract close }
+        ensures { result.cents ≡ set self.cents contract close }
     {
-        self.cents[contract] = close;
+        let mut cents = self.cents;
+        cents[contract] = close;
+        Closes { cents }
     }
 }
 

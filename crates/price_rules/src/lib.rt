@@ -93,19 +93,19 @@ impl Known {
     }
 
     // Behind a contract's answer.
-    pub fn learn(&mut self, contract: usize, answer: Answer)
+    pub fn learn(self, contract: usize, answer: Answer) -> Self
         requires { (contract < 6) × Small (answer_says answer) }
-        ensures { known_says self.new ≡ learnt (known_says self.old) contract (answer_says answer) }
+        ensures { known_says result ≡ learnt (known_says self) contract (answer_says answer) }
     {
-        match answer {
-            Ok(priced) => {
-                self.closes.establish(contract, priced.close);
-                self.stopped = false;
-            }
-            Err(_) => self.stopped = true,
-        }
-        if contract == 0 {
-            self.three = answer;
+        let (closes, stopped) = match answer {
+            Ok(priced) => (self.closes.establish(contract, priced.close), false),
+            Err(_) => (self.closes, true),
+        };
+        let three = if contract == 0 { answer } else { self.three };
+        Known {
+            closes,
+            stopped,
+            three,
         }
     }
 }

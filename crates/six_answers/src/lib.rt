@@ -76,7 +76,7 @@ fn price_all(sheet: &[u8], book: &Book) -> SixAnswers
         let span = sums[row.twap as usize];
         let closes = known.closes.lent();
         let answer = price_one(book, &closes, known.stopped, known.three, span, c);
-        known.learn(c, answer);
+        known = known.learn(c, answer);
         six[c] = answer;
     }
     SixAnswers {

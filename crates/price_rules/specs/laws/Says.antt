@@ -1,6 +1,6 @@
--- No two answers of the code say the same. Assumes nothing.
+-- No two answers of the code say the same, and neither do two values of what is known. Assumes nothing.
 use Rattle.std.specs.Prelude.{ℕ, ◌≡◌, refl, cond, List, eqb, get_or, Result, Ok, Err}
-use Rattle.std.proofs.Common.{ap}
+use Rattle.std.proofs.Common.{sym, ap, ◌∙◌}
 use Rattle.promise.specs.laws.Once.{through}
 use Rattle.field.specs.declared.Refusal.{Refusal}
 use Rattle.field.specs.laws.Said.{fault_of, fault_back}
@@ -9,8 +9,9 @@ use Rattle.price_rules.specs.declared.Priced.{Priced}
 use Rattle.price_rules.specs.declared.Unpriced.{Unpriced}
 use Rattle.price_rules.specs.declared.Unpriced.TheVariants.{NoReference, OutOfRange, NotReached}
 use Rattle.price_rules.specs.declared.SixAnswers.{SixAnswers}
-use Rattle.price_rules.specs.Closing.{Told, close, refused, Answers, six, none-priced}
-use Rattle.price_rules.specs.Says.{answer_says, closings_say, closed_says}
+use Rattle.price_rules.specs.declared.Known as code
+use Rattle.price_rules.specs.Closing.{Told, close, refused, Known, Answers, six, none-priced}
+use Rattle.price_rules.specs.Says.{answer_says, known_says, closings_say, closed_says}
 
 -- an answer, read off what it says
 
@@ -26,6 +27,12 @@ answer_back (Err NotReached) = refl
 
 pub answer-once : {d : Told} {x y : Result Priced Unpriced} → answer_says x ≡ d → answer_says y ≡ d → x ≡ y
 answer-once p q = through answer_says answer-of answer_back p q
+
+-- of two that say the same, each field that is kept when the program runs is the same
+pub known-once : {d : Known} (x y : code.Known) → known_says x ≡ d → known_says y ≡ d → (x.closes.cents ≡ y.closes.cents) × (x.stopped ≡ y.stopped) × (x.three ≡ y.three)
+known-once x y p q =
+    let same : known_says x ≡ known_says y = p ∙ sym q in
+    (ap (λ (k : Known). k.closes) same, ap (λ (k : Known). k.stopped) same, answer-once (ap (λ (k : Known). k.three) p) (ap (λ (k : Known). k.three) q))
 
 abbrev at : List Told → ℕ → Result Priced Unpriced
 at ts c = answer-of (get_or ts c (refused 15 0))

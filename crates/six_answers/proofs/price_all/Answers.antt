@@ -15,13 +15,13 @@ pub price_one-answer-requires : goal.price_one-answer-requires
 price_one-answer-requires c =
     ((sum-lent _ _ c.requires c.some_ask.ensures _ c.sums_if-sums.ensures _ (omega arith) c.contract_of-row.ensures refl refl).summable, omega arith)
 
-pub learn-requires : goal.learn-requires
-learn-requires c =
+pub learn-known-requires : goal.learn-known-requires
+learn-known-requires c =
     (omega arith, stands-small _ c.loop-c.invariant _ ((rw c.lent-closes.ensures at c.price_one-answer.ensures) ∙ step_of _ _ c.requires c.some_ask.ensures _ c.sums_if-sums.ensures _ (omega arith) c.contract_of-row.ensures _))
 
 pub loop-c-preserved : goal.loop-c-preserved
 loop-c-preserved c =
-    stands-next _ c.loop-c.invariant _ ((rw c.lent-closes.ensures at c.price_one-answer.ensures) ∙ step_of _ _ c.requires c.some_ask.ensures _ c.sums_if-sums.ensures _ (omega arith) c.contract_of-row.ensures _) (omega arith) c.learn.ensures
+    stands-next _ c.loop-c.invariant _ ((rw c.lent-closes.ensures at c.price_one-answer.ensures) ∙ step_of _ _ c.requires c.some_ask.ensures _ c.sums_if-sums.ensures _ (omega arith) c.contract_of-row.ensures _) (omega arith) c.learn-known.ensures
 
 pub returns : goal.returns
 returns c = stands-all _ c.loop-c.invariant (omega arith)
