@@ -2,9 +2,9 @@
 // line of a sheet that is refused or too long.
 #![tactic(auto)]
 
-ghost use Rattle.std.specs.Prelude.{◌≡◌};
+ghost use Rattle.std.specs.Prelude.{◌≡◌, Some};
 ghost use Rattle.text.specs.Over.{put_place, put_buffer};
-ghost use Rattle.text.specs.Held.{Has, held};
+ghost use Rattle.text.specs.Held.{Has, held_by};
 ghost use Rattle.price_rules.specs.Says.{closed_says};
 ghost use Rattle.list_lines.specs.Listing.{list_text, list_of};
 
@@ -12,14 +12,14 @@ use list_lines::{put_lines, put_refusal};
 use names::put_metal;
 use price_rules::Closed;
 use six_answers::closings;
-use text::Text;
+use text::{Text, put_bytes};
 
 // How many bytes a sheet that is listed may have.
 pub const LONGEST: usize = 65_536;
 
 // The list of a sheet's answers.
 fn answers_text(closed: Closed) -> Option<Text>
-    ensures { held result ≡ Has (list_text (closed_says closed)) }
+    ensures { held_by result ≡ Some (Has (list_text (closed_says closed))) }
 {
     let t = Text::empty();
     match closed {
@@ -28,19 +28,12 @@ fn answers_text(closed: Closed) -> Option<Text>
     }
 }
 
-// The list of a sheet.
-fn sheet_text(sheet: &[u8]) -> Option<Text>
-    ensures { held result ≡ Has (list_of sheet.now) }
-{
-    if LONGEST < sheet.len() {
-        return Text::empty().put(b"too long\n");
-    }
-    answers_text(closings(sheet))
-}
-
 // The list of a sheet into the buffer, whole or not at all: the place behind it is its length.
 pub fn closing_list(sheet: &[u8], out: &mut [u8]) -> Option<usize>
     ensures { (result ≡ put_place out.old 0 (list_of sheet.now)) × (out.new ≡ put_buffer out.old 0 (list_of sheet.now)) }
 {
-    sheet_text(sheet)?.put_into(out, 0)
+    if LONGEST < sheet.len() {
+        return put_bytes(out, 0, b"too long\n");
+    }
+    answers_text(closings(sheet))?.put_into(out, 0)
 }

@@ -2,7 +2,7 @@
 -- number. Assumes nothing.
 use Rattle.promise.specs.Once.{Once}
 use Rattle.promise.specs.laws.Once.{once}
-use Rattle.text.specs.Held.{held}
+use Rattle.text.specs.Held.{held_by}
 use Rattle.names.proofs.Name.as_bytes.Reads as as-bytes
 use Rattle.names.proofs.Name.as_bytes.Kinds as as-bytesK
 use Rattle.names.proofs.metal_name.Reads as metal-name
@@ -41,13 +41,13 @@ instrument-name-once κs a x y s t p q = once p q
 pub method-name-once : Once 0 method-nameK.ps method-nameK.r method-name.Post (λ κs x s. x)
 method-name-once κs a x y s t p q = once p q
 
-pub put-metal-once : Once 0 put-metalK.ps put-metalK.r put-metal.Post (λ κs x s. held x)
+pub put-metal-once : Once 0 put-metalK.ps put-metalK.r put-metal.Post (λ κs x s. held_by x)
 put-metal-once κs a x y s t p q = once p q
 
-pub put-contract-once : Once 0 put-contractK.ps put-contractK.r put-contract.Post (λ κs x s. held x)
+pub put-contract-once : Once 0 put-contractK.ps put-contractK.r put-contract.Post (λ κs x s. held_by x)
 put-contract-once κs a x y s t p q = once p q
 
-pub put-method-once : Once 0 put-methodK.ps put-methodK.r put-method.Post (λ κs x s. held x)
+pub put-method-once : Once 0 put-methodK.ps put-methodK.r put-method.Post (λ κs x s. held_by x)
 put-method-once κs a x y s t p q = once p q
 
 pub is-name-once : Once 2 is-nameK.ps is-nameK.r is_name.Post (λ κs x s. x)

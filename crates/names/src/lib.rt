@@ -2,7 +2,7 @@
 #![tactic(auto)]
 
 ghost use Rattle.std.specs.Prelude.{◌≡◌, ◌≤◌, length, take};
-ghost use Rattle.text.specs.Held.{Has, held, ◌⊕◌};
+ghost use Rattle.text.specs.Held.{held, held_by, kept, ◌⊕◌};
 ghost use Rattle.names.specs.Names.{metal_name, contract_name, instrument_name, method_name, same, metal_in, instrument_in, in_name};
 
 use price_rules::Method;
@@ -28,12 +28,11 @@ impl Name {
         }
     }
 
-    // Its bytes, without the spaces. The length is asked for here: the type promises nothing of it, since anyone can make a name.
+    // Its bytes, without the spaces; with a len above 9, which anyone can give one, all of them.
     pub fn as_bytes(&self) -> &[u8]
-        requires { self.now.len ≤ 9 }
         ensures { result.now ≡ take self.now.len self.now.bytes }
     {
-        &self.bytes[..self.len]
+        &self.bytes[..self.len.min(9)]
     }
 }
 
@@ -102,19 +101,19 @@ pub fn method_name(method: Method) -> Name
 
 // Each of these three puts a name behind a text, where it fits.
 pub fn put_metal(t: Text, metal: u8) -> Option<Text>
-    ensures { held result ≡ Has t ⊕ metal_name metal }
+    ensures { held_by result ≡ kept (held t ⊕ metal_name metal) }
 {
     t.put(metal_name(metal).as_bytes())
 }
 
 pub fn put_contract(t: Text, contract: usize) -> Option<Text>
-    ensures { held result ≡ Has t ⊕ contract_name contract }
+    ensures { held_by result ≡ kept (held t ⊕ contract_name contract) }
 {
     t.put(contract_name(contract).as_bytes())
 }
 
 pub fn put_method(t: Text, method: Method) -> Option<Text>
-    ensures { held result ≡ Has t ⊕ method_name method }
+    ensures { held_by result ≡ kept (held t ⊕ method_name method) }
 {
     t.put(method_name(method).as_bytes())
 }

@@ -1,12 +1,10 @@
 // Text that is put together from byte strings and numbers, and put into a lent buffer whole or not at all.
 #![tactic(auto)]
 
-ghost use Rattle.std.specs.Prelude.{◌≡◌, ◌+◌, ◌≤◌, length};
+ghost use Rattle.std.specs.Prelude.{◌≡◌, ◌+◌, ◌≤◌, length, take};
 ghost use Rattle.text.specs.Over.{over, put_place, put_buffer};
-ghost use Rattle.text.specs.Held.{Added, empty_text};
+ghost use Rattle.text.specs.Held.{Added, empty_text, held, place_after, buffer_after};
 ghost use Rattle.text.specs.Decimal.{decimal};
-
-use std::marker::Model;
 
 // The bytes from the place on, where there is room.
 fn copy_in(dst: &mut [u8], at: usize, s: &[u8])
@@ -30,21 +28,12 @@ pub fn put_bytes(buf: &mut [u8], at: usize, s: &[u8]) -> Option<usize>
     Some(at + s.len())
 }
 
-// A text of up to 512 bytes. It is a store with a length, since there is no heap; what is behind the length is no part of it.
-#[derive(Drop)]
+// A text of up to 512 bytes. It is a store with a length, since there is no heap; what is behind the length is no part of it. Anyone can make one
+// with a len above 512: nothing goes behind it, and it goes into no buffer.
+#[derive(Clone, Copy)]
 pub struct Text {
-    store: [u8; 512],
-    len: usize,
-}
-
-impl Model for Text {
-    ghost use Rattle.std.specs.Prelude.{ℕ, ◌≤◌, List, take};
-
-    ghost Value = { List ℕ };
-
-    ghost view = { λ t. take t.len t.store };
-
-    ghost invariant = { λ t. t.len ≤ 512 };
+    pub store: [u8; 512],
+    pub len: usize,
 }
 
 impl Text {
@@ -63,6 +52,9 @@ impl Text {
         ensures { Added self s.now result }
     {
         let at = self.len;
+        if 512 < at {
+            return None;
+        }
         if 512 - at < s.len() {
             return None;
         }
@@ -80,17 +72,20 @@ impl Text {
         self.put(&digits[..k])
     }
 
-    // Its bytes.
+    // Its bytes; with a len above 512 the whole store.
     pub fn as_bytes(&self) -> &[u8]
-        ensures { result.now ≡ self.now }
+        ensures { result.now ≡ take self.now.len self.now.store }
     {
-        &self.store[..self.len]
+        &self.store[..self.len.min(512)]
     }
 
     // The whole text into the buffer from the place on, or nothing.
     pub fn put_into(&self, buf: &mut [u8], at: usize) -> Option<usize>
-        ensures { (result ≡ put_place buf.old at self.now) × (buf.new ≡ put_buffer buf.old at self.now) }
+        ensures { (result ≡ place_after buf.old at (held self.now)) × (buf.new ≡ buffer_after buf.old at (held self.now)) }
     {
+        if 512 < self.len {
+            return None;
+        }
         put_bytes(buf, at, self.as_bytes())
     }
 }

@@ -1,8 +1,9 @@
 -- `list::answers_text` meets its contract: the pieces that were put, as one text behind no bytes. Assumes nothing.
-use Rattle.std.specs.Prelude.{◌≡◌, None, List, [], ◌∷◌, ◌++◌, ℕ, Result, Ok, Err}
+use Rattle.std.specs.Prelude.{◌≡◌, Some, None, List, [], ◌∷◌, ◌++◌, ℕ, Result, Ok, Err}
 use Rattle.std.proofs.Common.{sym, ap, ◌∙◌, append_assoc}
-use Rattle.text.specs.Held.{Has, ◌⊕◌}
-use Rattle.text.specs.laws.Held.{then_put, then_none, whole}
+use Rattle.text.specs.declared.Text.{Text}
+use Rattle.text.specs.Held.{Held, Has, held, kept, empty_text, ◌⊕◌}
+use Rattle.text.specs.laws.Held.{then_put, then_none, empty_holds, whole}
 use Rattle.field.specs.declared.Refusal.{Refusal}
 use Rattle.field.specs.Said.{fault_number}
 use Rattle.sheet.specs.declared.Day.{Day}
@@ -14,16 +15,16 @@ use Rattle.list_lines.specs.laws.Listing.{list_length}
 use Rattle.list.proofs.answers_text.Goals as goal
 
 -- behind no bytes
-whole_list : (t : List ℕ) → t ≡ [] → (r : Result (Day × SixAnswers) Refusal) → Has t ⊕ list_text (closed_says r) ≡ Has (list_text (closed_says r))
-whole_list t e r = ap (λ (v : List ℕ). Has v ⊕ list_text (closed_says r)) e ∙ whole _ (list_length r)
+whole_list : (t : Text) → t ≡ empty_text → (r : Result (Day × SixAnswers) Refusal) → kept (held t ⊕ list_text (closed_says r)) ≡ Some (Has (list_text (closed_says r)))
+whole_list t e r = ap kept (ap (λ (v : Text). held v ⊕ list_text (closed_says r)) e ∙ ap (λ (h : Held). h ⊕ list_text (closed_says r)) empty_holds ∙ whole _ (list_length r))
 
-six-text : (t : List ℕ) → t ≡ [] → (day : Day) (k : SixAnswers) → Has t ⊕ (metal_name day.metal ++ (10 ∷ answer_lines 0 (closings_say k))) ≡ Has (list_text (closed_says (Ok (day, k))))
+six-text : (t : Text) → t ≡ empty_text → (day : Day) (k : SixAnswers) → kept (held t ⊕ (metal_name day.metal ++ (10 ∷ answer_lines 0 (closings_say k)))) ≡ Some (Has (list_text (closed_says (Ok (day, k)))))
 unfolding list_text
 six-text t e day k =
-    ap (λ (v : List ℕ). Has t ⊕ v) (sym (append_assoc (metal_name day.metal) (10 ∷ []) (answer_lines 0 (closings_say k))))
+    ap (λ (v : List ℕ). kept (held t ⊕ v)) (sym (append_assoc (metal_name day.metal) (10 ∷ []) (answer_lines 0 (closings_say k))))
     ∙ whole_list t e (Ok (day, k))
 
-refused-text : (t : List ℕ) → t ≡ [] → (r : Refusal) → Has t ⊕ line (refusal (fault_number r.fault) r.at) ≡ Has (list_text (closed_says (Err r)))
+refused-text : (t : Text) → t ≡ empty_text → (r : Refusal) → kept (held t ⊕ line (refusal (fault_number r.fault) r.at)) ≡ Some (Has (list_text (closed_says (Err r))))
 unfolding list_text
 refused-text t e r = whole_list t e (Err r)
 

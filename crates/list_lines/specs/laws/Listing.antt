@@ -1,14 +1,14 @@
 -- A contract's line item by item, and how long a list can be. Assumes nothing.
-use Rattle.std.specs.Prelude.{ℕ, ◌+◌, ◌≤◌, ◌<◌, ◌≡◌, refl, List, [], ◌∷◌, ◌++◌, length, map, drop, get_or, Result, Ok, Err}
-use Rattle.std.proofs.Common.{sym, ap, ◌∙◌, arith, add-one, append-nil, length-append, le-leb}
+use Rattle.std.specs.Prelude.{ℕ, ◌+◌, ◌≤◌, ◌<◌, ◌≡◌, refl, List, [], ◌∷◌, ◌++◌, length, map, drop, get_or, Some, None, Result, Ok, Err}
+use Rattle.std.proofs.Common.{sym, ap, ◌∙◌, arith, add-one, length-append, le-leb}
 use Rattle.std.proofs.Math.ListN.{drop_of_length-le}
 use Rattle.std.proofs.Math.Seq.{drop-cons}
 use Rattle.std.proofs.Math.Decide.{dec_le}
 use Rattle.std.proofs.lemmas.Bool.{lt-leb}
 use Rattle.text.specs.Decimal.{decimal}
 use Rattle.text.specs.laws.Decimal.{decimal-length}
-use Rattle.text.specs.Held.{Held, Has, TooLong, fit, ◌⊕◌}
-use Rattle.text.specs.laws.Held.{fit-yes, ⊕-⊕, then_none, put_short}
+use Rattle.text.specs.Held.{Held, kept, ◌⊕◌}
+use Rattle.text.specs.laws.Held.{⊕-⊕, kept-some, then_none, then_end}
 use Rattle.price_rules.specs.declared.Priced.{Priced}
 use Rattle.price_rules.specs.declared.Unpriced.{Unpriced}
 use Rattle.field.specs.declared.Refusal.{Refusal}
@@ -45,37 +45,37 @@ too_long s h = simp (lt-leb (length s) 65536 h)
 -- ---- the contracts' lines, as they are put one behind the other
 
 -- what is left to be put behind the text, from a contract on
-pub record Listed (t : List ℕ) (answers : List (Result Priced Unpriced)) (text : List ℕ) (contract : ℕ) : Type 0 where
-  pub rest : Has t ⊕ answer_lines 0 (map answer_says answers) ≡ Has text ⊕ answer_lines contract (map answer_says (drop contract answers))
-  pub short : 1 ≤ contract → length text ≤ 512
+pub record Listed (t : Held) (answers : List (Result Priced Unpriced)) (text : Held) (contract : ℕ) : Type 0 where
+  pub rest : t ⊕ answer_lines 0 (map answer_says answers) ≡ text ⊕ answer_lines contract (map answer_says (drop contract answers))
+  pub end : 1 ≤ contract → Some text ≡ kept (text ⊕ [])
 
-module _ (t : List ℕ) (answers : List (Result Priced Unpriced)) where
+module _ (t : Held) (answers : List (Result Priced Unpriced)) where
   pub list-start : Listed t answers t 0
-  list-start = record { rest = refl; short = λ h. absurd (omega arith) }
+  list-start = record { rest = refl; end = λ h. absurd (omega arith) }
 
-  module _ (text : List ℕ) (contract : ℕ) (o : Listed t answers text contract) where
-    pub list-end : length answers ≤ contract → 1 ≤ contract → Has text ≡ Has t ⊕ answer_lines 0 (map answer_says answers)
-    unfolding answer_lines ◌⊕◌
+  module _ (text : Held) (contract : ℕ) (o : Listed t answers text contract) where
+    pub list-end : length answers ≤ contract → 1 ≤ contract → Some text ≡ kept (t ⊕ answer_lines 0 (map answer_says answers))
+    unfolding answer_lines
     list-end h some =
         let d : drop contract answers ≡ [] = drop_of_length-le answers h in
-        sym (rw d at o.rest ∙ ap fit (append-nil text) ∙ fit-yes text (o.short some))
+        o.end some ∙ ap kept (sym (rw d at o.rest))
 
     module _ (d : Result Priced Unpriced) (h : contract < length answers) where
       left : drop contract answers ≡ get_or answers contract d ∷ drop (contract + 1) answers
       left = drop-cons answers contract d h ∙ rw add-one refl
 
-      here : Has t ⊕ answer_lines 0 (map answer_says answers) ≡ Has text ⊕ (answer_line contract (answer_says (get_or answers contract d)) ++ answer_lines (contract + 1) (map answer_says (drop (contract + 1) answers)))
+      here : t ⊕ answer_lines 0 (map answer_says answers) ≡ text ⊕ (answer_line contract (answer_says (get_or answers contract d)) ++ answer_lines (contract + 1) (map answer_says (drop (contract + 1) answers)))
       unfolding answer_lines
       here = o.rest ∙ rw (left, add-one) refl
 
-      pub list_next : (r : List ℕ) → Has r ≡ Has text ⊕ answer_line contract (answer_says (get_or answers contract d)) → Listed t answers r (contract + 1)
+      pub list_next : (r : Held) → Some r ≡ kept (text ⊕ answer_line contract (answer_says (get_or answers contract d))) → Listed t answers r (contract + 1)
       list_next r g = record {
-        rest = here ∙ sym (⊕-⊕ (Has text) _ _) ∙ ap (λ (v : Held). v ⊕ answer_lines (contract + 1) (map answer_says (drop (contract + 1) answers))) (sym g);
-        short = λ _. put_short (Has text) _ r g;
+        rest = here ∙ sym (⊕-⊕ text _ _) ∙ ap (λ (v : Held). v ⊕ answer_lines (contract + 1) (map answer_says (drop (contract + 1) answers))) (sym (kept-some r _ g));
+        end = λ _. then_end text _ r g;
       }
 
-      pub list-none : TooLong ≡ Has text ⊕ answer_line contract (answer_says (get_or answers contract d)) → TooLong ≡ Has t ⊕ answer_lines 0 (map answer_says answers)
-      list-none g = then_none text _ _ g ∙ sym here
+      pub list-none : None ≡ kept (text ⊕ answer_line contract (answer_says (get_or answers contract d))) → None ≡ kept (t ⊕ answer_lines 0 (map answer_says answers))
+      list-none g = then_none text _ _ g ∙ ap kept (sym here)
 
 -- ---- lengths
 

@@ -1,9 +1,9 @@
 -- Two pieces one after the other are their join, whether they fit or not. Assumes nothing.
-use Rattle.std.specs.Prelude.{ℕ, ◌≤◌, ◌<◌, ◌≡◌, refl, List, [], ◌++◌, length, Option, Some}
-use Rattle.std.proofs.Common.{sym, ap, ◌∙◌, append_assoc, arith, length-append, le-leb}
+use Rattle.std.specs.Prelude.{ℕ, ◌≤◌, ◌<◌, ◌≡◌, refl, List, [], ◌++◌, length, Option, Some, None}
+use Rattle.std.proofs.Common.{sym, ap, ◌∙◌, append_assoc, append-nil, arith, length-append, le-leb}
 use Rattle.std.proofs.Math.Decide.{dec_le}
 use Rattle.std.proofs.lemmas.Bool.{lt-leb}
-use Rattle.text.specs.Held.{Held, fit, held, ◌⊕◌, Has, TooLong, empty_text}
+use Rattle.text.specs.Held.{Held, fit, held, kept, ◌⊕◌, Has, TooLong, empty_text}
 
 pub fit-yes : (s : List ℕ) → length s ≤ 512 → fit s ≡ Has s
 unfolding fit
@@ -26,7 +26,8 @@ unfolding ◌⊕◌
 ⊕-⊕ (Has a) s t = fit-⊕ (a ++ s) t ∙ ap fit (append_assoc a s t)
 ⊕-⊕ TooLong s t = refl
 
-pub empty_holds : held (Some empty_text) ≡ Has []
+pub empty_holds : held empty_text ≡ Has []
+unfolding held
 empty_holds = refl
 
 -- a text that starts empty holds the pieces, where they have at most 512 bytes
@@ -36,13 +37,33 @@ whole s h = fit-yes s h
 
 -- ---- as the code puts one piece behind another: the next piece, and a piece that did not fit, behind which nothing more is put
 
-module _ (t s : List ℕ) where
-  pub then_put : (u v : List ℕ) (r : Option (List ℕ)) → Has u ≡ Has t ⊕ s → held r ≡ Has u ⊕ v → held r ≡ Has t ⊕ (s ++ v)
-  then_put u v r e f = f ∙ ap (λ (h : Held). h ⊕ v) e ∙ ⊕-⊕ (Has t) s v
+pub kept-some : (u h : Held) → Some u ≡ kept h → u ≡ h
+kept-some u (Has s) e = cc
+kept-some u TooLong e = absurd (some≢none e)
+  where
+    some≢none : Some u ≡ None → ⊥
+    some≢none e = cc
 
-  pub then_none : (v : List ℕ) → TooLong ≡ Has t ⊕ s → TooLong ≡ Has t ⊕ (s ++ v)
+pub kept-none : (h : Held) → None ≡ kept h → TooLong ≡ h
+kept-none (Has s) e = absurd (none≢some e)
+  where
+    none≢some : None ≡ Some (Has s) → ⊥
+    none≢some e = cc
+kept-none TooLong e = refl
+
+module _ (h : Held) (s : List ℕ) where
+  pub then_put : (u : Held) (v : List ℕ) (r : Option Held) → Some u ≡ kept (h ⊕ s) → r ≡ kept (u ⊕ v) → r ≡ kept (h ⊕ (s ++ v))
+  then_put u v r e f = f ∙ ap (λ (x : Held). kept (x ⊕ v)) (kept-some u (h ⊕ s) e) ∙ ap kept (⊕-⊕ h s v)
+
+  pub then_none : (v : List ℕ) → None ≡ kept (h ⊕ s) → None ≡ kept (h ⊕ (s ++ v))
   unfolding ◌⊕◌
-  then_none v e = ap (λ (h : Held). h ⊕ v) e ∙ ⊕-⊕ (Has t) s v
+  then_none v e = ap (λ (x : Held). kept (x ⊕ v)) (kept-none (h ⊕ s) e) ∙ ap kept (⊕-⊕ h s v)
+
+  -- no bytes behind what was put leave it as it is
+  pub then_end : (u : Held) → Some u ≡ kept (h ⊕ s) → Some u ≡ kept (u ⊕ [])
+  then_end u e =
+      let same : u ≡ h ⊕ s = kept-some u (h ⊕ s) e in
+      e ∙ ap kept (sym (ap (λ (x : Held). x ⊕ []) same ∙ ⊕-⊕ h s [] ∙ ap (λ (v : List ℕ). h ⊕ v) (append-nil s)))
 
 -- ---- a text that was put together is short
 
