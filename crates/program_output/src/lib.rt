@@ -31,8 +31,13 @@ pub fn write_part<P: Print>(file: &P, bytes: &[u8], n: usize) -> Result<()> {
 
 // A text to a file, where there is one.
 pub fn say<P: Print>(file: &P, text: Option<Text>) -> Result<()> {
-    match text {
-        Some(text) => file.write_all(text.as_bytes()),
+    let mut out = [0u8; 512];
+    let put = match text {
+        Some(text) => text.put_into(&mut out, 0),
+        None => None,
+    };
+    match put {
+        Some(n) => write_part(file, &out, n),
         None => Ok(()),
     }
 }
@@ -40,19 +45,17 @@ pub fn say<P: Print>(file: &P, text: Option<Text>) -> Result<()> {
 // What a call that fills a buffer answers: the length of what it put at the start, or a refusal.
 pub type Filled = std::result::Result<usize, Refusal>;
 
-// What stands at the start of a buffer on standard output; or what refused it on standard error.
+// What stands at the start of a buffer on standard output; or the number that refused it, and its place, on standard error. The number may be any,
+// as on a list.
 pub fn hand_out<O: Print, E: Print>(
     output: &O,
     error: &E,
-    told: Filled,
+    told: std::result::Result<usize, (u8, usize)>,
     bytes: &[u8],
 ) -> Result<()> {
     match told {
         Ok(n) => write_part(output, bytes, n),
-        Err(refusal) => {
-            let at = refusal.at as u64;
-            say(error, put_refusal(Text::empty(), refusal.fault.into(), at))
-        }
+        Err((number, at)) => say(error, put_refusal(Text::empty(), number, at as u64)),
     }
 }
 
@@ -67,7 +70,7 @@ fn turn<const OUT: usize, O: Print, E: Print, F: Fn(&[u8], &mut [u8]) -> Filled>
     requires fits { OUT < 2 ^ 63 }
 {
     let mut made = room::<OUT>();
-    let told = make(given, &mut made);
+    let told = make(given, &mut made).map_err(|refusal| (refusal.fault.into(), refusal.at));
     hand_out(output, error, told, &made)
 }
 
