@@ -128,7 +128,7 @@ fn of_four(a: &[u8], b: &[u8], c: &[u8], d: &[u8]) -> Option<Field>
     None
 }
 
-// Five items. In line in its caller: by itself it would take 80 bytes of stack more for every line.
+// Five items. In line in its caller: by itself it would take 80 bytes of stack more, for every text.
 #[inline(always)]
 #[tactic(auto, unfolding(crate::specs::Lines::five))]
 fn of_five(a: &[u8], b: &[u8], c: &[u8], d: &[u8], e: &[u8]) -> Option<Field>

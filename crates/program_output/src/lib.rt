@@ -45,8 +45,8 @@ pub fn say<P: Print>(file: &P, text: Option<Text>) -> Result<()> {
 // What a call that fills a buffer answers: the length of what it put at the start, or a refusal.
 pub type Filled = std::result::Result<usize, Refusal>;
 
-// What stands at the start of a buffer on standard output; or the number that refused it, and its place, on standard error. The number may be any,
-// as on a list.
+// What stands at the start of a buffer on standard output; or the number that refused it, and its place, as a list's line on standard error. The
+// number may be any.
 pub fn hand_out<O: Print, E: Print>(
     output: &O,
     error: &E,
