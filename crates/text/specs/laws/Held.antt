@@ -1,8 +1,9 @@
--- Two pieces one after the other are their join, whether they fit or not. Assumes nothing.
-use Rattle.std.specs.Prelude.{ℕ, ◌≤◌, ◌<◌, ◌≡◌, refl, List, [], ◌++◌, length, Option, Some, None}
+-- Two pieces one after the other are their join, whether they fit or not; and which bytes a text holds. Assumes nothing.
+use Rattle.std.specs.Prelude.{ℕ, ◌≤◌, ◌<◌, ◌≡◌, refl, List, [], ◌++◌, length, take, Option, Some, None}
 use Rattle.std.proofs.Common.{sym, ap, ◌∙◌, append_assoc, append-nil, arith, length-append, le-leb}
 use Rattle.std.proofs.Math.Decide.{dec_le}
 use Rattle.std.proofs.lemmas.Bool.{lt-leb}
+use Rattle.text.specs.declared.Text.{Text}
 use Rattle.text.specs.Held.{Held, fit, held, kept, ◌⊕◌, Has, TooLong, empty_text}
 
 pub fit-yes : (s : List ℕ) → length s ≤ 512 → fit s ≡ Has s
@@ -81,3 +82,32 @@ put_short TooLong s r e = absurd (no_text r e)
   where
     no_text : (r : List ℕ) → Has r ≡ TooLong → ⊥
     no_text r g = cc
+
+-- ---- what a text holds is its bytes up to its length, where that is at most 512; of each text that was put together it is
+
+pub held-is : (t : Text) → t.len ≤ 512 → held t ≡ Has (take t.len t.store)
+unfolding held
+held-is t h = simp (le-leb t.len 512 h)
+
+pub held-over : (t : Text) → 512 < t.len → held t ≡ TooLong
+unfolding held
+held-over t h = simp (lt-leb t.len 512 h)
+
+within : (t : Text) (s : List ℕ) → Dec (t.len ≤ 512) → held t ≡ Has s → (t.len ≤ 512) × (take t.len t.store ≡ s)
+within t s (yes h) e = let g : Has (take t.len t.store) ≡ Has s = sym (held-is t h) ∙ e in (h, cc)
+within t s (no h) e = absurd (too-long≢has (sym (held-over t (omega arith)) ∙ e))
+  where
+    too-long≢has : TooLong ≡ Has s → ⊥
+    too-long≢has g = cc
+
+-- a text that holds bytes, as the empty one does
+pub held-within : (t : Text) (s : List ℕ) → held t ≡ Has s → (t.len ≤ 512) × (take t.len t.store ≡ s)
+held-within t s e = within t s (dec_le t.len 512) e
+
+-- a text that is handed out, by the clause `held_by result ≡ kept h`
+pub kept-within : (h : Held) (t : Text) → Some (held t) ≡ kept h → (t.len ≤ 512) × (Has (take t.len t.store) ≡ h)
+kept-within (Has s) t e = let w = held-within t s (kept-some _ _ e) in (w.0, ap Has w.1)
+kept-within TooLong t e = absurd (some≢none e)
+  where
+    some≢none : Some (held t) ≡ None → ⊥
+    some≢none g = cc
