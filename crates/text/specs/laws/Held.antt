@@ -3,8 +3,12 @@ use Rattle.std.specs.Prelude.{ℕ, ◌≤◌, ◌<◌, ◌≡◌, refl, List, []
 use Rattle.std.proofs.Common.{sym, ap, ◌∙◌, append_assoc, append-nil, arith, length-append, le-leb}
 use Rattle.std.proofs.Math.Decide.{dec_le}
 use Rattle.std.proofs.lemmas.Bool.{lt-leb}
+use Rattle.std.proofs.lemmas.Option.{none-some}
 use Rattle.text.specs.declared.Text.{Text}
 use Rattle.text.specs.Held.{Held, fit, held, kept, ◌⊕◌, Has, TooLong, empty_text}
+
+has≢long : (s : List ℕ) → Has s ≡ TooLong → ⊥
+has≢long s e = cc
 
 pub fit-yes : (s : List ℕ) → length s ≤ 512 → fit s ≡ Has s
 unfolding fit
@@ -40,16 +44,10 @@ whole s h = fit-yes s h
 
 pub kept-some : (u h : Held) → Some u ≡ kept h → u ≡ h
 kept-some u (Has s) e = cc
-kept-some u TooLong e = absurd (some≢none e)
-  where
-    some≢none : Some u ≡ None → ⊥
-    some≢none e = cc
+kept-some u TooLong e = absurd (none-some u (sym e))
 
 pub kept-none : (h : Held) → None ≡ kept h → TooLong ≡ h
-kept-none (Has s) e = absurd (none≢some e)
-  where
-    none≢some : None ≡ Some (Has s) → ⊥
-    none≢some e = cc
+kept-none (Has s) e = absurd (none-some (Has s) e)
 kept-none TooLong e = refl
 
 module _ (h : Held) (s : List ℕ) where
@@ -70,20 +68,14 @@ module _ (h : Held) (s : List ℕ) where
 
 fit-short : (s r : List ℕ) → Dec (length s ≤ 512) → Has r ≡ fit s → length r ≤ 512
 fit-short s r (yes h) e = let g : Has r ≡ Has s = e ∙ fit-yes s h in let q : r ≡ s = cc in rw q h
-fit-short s r (no h) e = let g : Has r ≡ TooLong = e ∙ fit-no s (omega arith) in absurd (has≢none r g)
-  where
-    has≢none : (r : List ℕ) → Has r ≡ TooLong → ⊥
-    has≢none r g = cc
+fit-short s r (no h) e = absurd (has≢long r (e ∙ fit-no s (omega arith)))
 
 pub put_short : (h : Held) (s r : List ℕ) → Has r ≡ h ⊕ s → length r ≤ 512
 unfolding ◌⊕◌
 put_short (Has a) s r e = fit-short (a ++ s) r (dec_le (length (a ++ s)) 512) e
-put_short TooLong s r e = absurd (no_text r e)
-  where
-    no_text : (r : List ℕ) → Has r ≡ TooLong → ⊥
-    no_text r g = cc
+put_short TooLong s r e = absurd (has≢long r e)
 
--- ---- what a text holds is its bytes up to its length, where that is at most 512; of each text that was put together it is
+-- ---- what a text holds is its bytes up to its length, where that is at most 512, as in each text that was put together
 
 pub held-is : (t : Text) → t.len ≤ 512 → held t ≡ Has (take t.len t.store)
 unfolding held
@@ -95,10 +87,7 @@ held-over t h = simp (lt-leb t.len 512 h)
 
 within : (t : Text) (s : List ℕ) → Dec (t.len ≤ 512) → held t ≡ Has s → (t.len ≤ 512) × (take t.len t.store ≡ s)
 within t s (yes h) e = let g : Has (take t.len t.store) ≡ Has s = sym (held-is t h) ∙ e in (h, cc)
-within t s (no h) e = absurd (too-long≢has (sym (held-over t (omega arith)) ∙ e))
-  where
-    too-long≢has : TooLong ≡ Has s → ⊥
-    too-long≢has g = cc
+within t s (no h) e = absurd (has≢long s (sym e ∙ held-over t (omega arith)))
 
 -- a text that holds bytes, as the empty one does
 pub held-within : (t : Text) (s : List ℕ) → held t ≡ Has s → (t.len ≤ 512) × (take t.len t.store ≡ s)
@@ -107,7 +96,4 @@ held-within t s e = within t s (dec_le t.len 512) e
 -- a text that is handed out, by the clause `held_by result ≡ kept h`
 pub kept-within : (h : Held) (t : Text) → Some (held t) ≡ kept h → (t.len ≤ 512) × (Has (take t.len t.store) ≡ h)
 kept-within (Has s) t e = let w = held-within t s (kept-some _ _ e) in (w.0, ap Has w.1)
-kept-within TooLong t e = absurd (some≢none e)
-  where
-    some≢none : Some (held t) ≡ None → ⊥
-    some≢none g = cc
+kept-within TooLong t e = absurd (none-some (held t) (sym e))
